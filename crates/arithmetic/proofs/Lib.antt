@@ -1,0 +1,2 @@
+pub mod Results
+mod Facts

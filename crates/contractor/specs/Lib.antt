@@ -1,0 +1,5 @@
+pub mod Laws
+pub mod Steps
+pub mod Same
+pub mod Layers
+pub mod Rules

@@ -1,0 +1,11 @@
+pub mod Rows
+pub mod Judging
+pub mod Laws
+pub mod Evaluation
+pub mod Plain
+pub mod Between
+pub mod Nominals
+pub mod Points
+pub mod Sound
+pub mod Exact
+pub mod Facts

@@ -1,0 +1,4 @@
+pub mod Tests
+pub mod Passes
+pub mod Algebra
+pub mod PassLaws

@@ -1,0 +1,3 @@
+pub mod Hands
+pub mod Numbers
+pub mod Runs

@@ -1,0 +1,5 @@
+pub mod Sizes
+pub mod Lists
+pub mod Lawful
+pub mod Runs
+pub mod Endings

@@ -1,0 +1,5 @@
+pub mod Says
+pub mod Held
+pub mod Gathering
+pub mod Walk
+pub mod Sheets

@@ -1,0 +1,4 @@
+pub mod Making
+pub mod Holding
+pub mod Halves
+pub mod Regions
