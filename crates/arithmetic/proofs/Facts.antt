@@ -1,5 +1,5 @@
 -- The single values whose spans are given by their ends.
-use Rattle.std.proofs.Common.{◌≡◌, ℤ, pos, negsuc, ◌+ℤ◌, sym, arith}
+use Rattle.std.proofs.Common.{◌≡◌, pos, negsuc, ◌+ℤ◌, sym, arith}
 use borrow.Author.Differences.{ints}
 use Rattle.arithmetic.specs.Facts.{SumAtLimit, SplitRoundsDown}
 use Rattle.arithmetic.specs.Reaches.{stretch}

@@ -1,5 +1,5 @@
 -- What each operation of spans holds, over every kind of number.
-use Rattle.std.specs.Prelude.{ℕ, suc, Bool, true, false, cond, ◌↔◌, ℤ, pos, ◌≤ℤ◌, IfSome, Some, None, Option, MatchOption, int_lt}
+use Rattle.std.specs.Prelude.{ℕ, suc, Bool, true, false, cond, ◌↔◌, ℤ, pos, IfSome, Some, None, Option, MatchOption, int_lt}
 use Prim.Native.Nat as Nat
 use Rattle.std.proofs.Common.{arith, inl, inr}
 use Rattle.std.specs.Int.Signed.{≤ℤ_refl}

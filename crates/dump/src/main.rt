@@ -1,5 +1,7 @@
 //! Lists a sheet from standard input for the file, and says whether it is accepted or how it is refused.
 
+#![tactic(auto)]
+
 use anyhow::anyhow;
 use format::fault::SheetFault;
 use line::piece::{push_bytes, push_text};

@@ -1,5 +1,5 @@
 -- Each test of the reader decides the fact that it is for.
-use Rattle.std.proofs.Common.{◌≡◌, ℕ, ◌≤◌, Bool, true, false, ◌&&◌, T, eqb, leb, ◌≢◌, List, [], ◌∷◌, length, ℤ, ◌≤ℤ◌, Decides, sym, refl}
+use Rattle.std.proofs.Common.{◌≡◌, ℕ, ◌≤◌, Bool, true, false, ◌&&◌, T, eqb, leb, ◌≢◌, List, [], ◌∷◌, ℤ, ◌≤ℤ◌, Decides, sym, refl}
 use lib.Signed.{le_z}
 use Rattle.std.specs.List.{AllByRecursion as All}
 use Rattle.std.specs.Str.{bytes_eq}

@@ -2,6 +2,8 @@
 //! Every line that a program prints goes through it.
 //! How a piece is worked out and where the text lies meanwhile may change unnoticed.
 
+#![tactic(auto)]
+
 pub mod fault;
 pub mod lend;
 pub mod piece;

@@ -22,7 +22,7 @@ pub fn push_bytes(line: &mut Vec<u8>, bytes: &[u8]) -> Result<(), AllocError>
 pub fn push_number(line: &mut Vec<u8>, z: i64) -> Result<(), AllocError>
     ensures { line.new.items ≡ appended result line.old.items (signed_decimal z) }
 {
-    let digits = format!(in line.allocator(); "{z}")?;
+    let digits = format!(in *line.allocator(); "{z}")?;
     line.extend_from_slice(digits.as_bytes())
 }
 
@@ -30,7 +30,7 @@ pub fn push_number(line: &mut Vec<u8>, z: i64) -> Result<(), AllocError>
 pub fn push_count(line: &mut Vec<u8>, n: usize) -> Result<(), AllocError>
     ensures { line.new.items ≡ appended result line.old.items (decimal n) }
 {
-    let digits = format!(in line.allocator(); "{n}")?;
+    let digits = format!(in *line.allocator(); "{n}")?;
     line.extend_from_slice(digits.as_bytes())
 }
 
@@ -55,6 +55,6 @@ pub fn pad_to(line: &mut Vec<u8>, column: usize) -> Result<(), AllocError>
 {
     let used = line.len();
     let more = if used < column { column - used } else { 0 };
-    let spaces = Vec::from_elem(line.allocator(), b' ', more)?;
+    let spaces = Vec::from_elem(*line.allocator(), b' ', more)?;
     line.extend_from_slice(spaces.as_slice())
 }

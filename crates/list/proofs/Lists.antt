@@ -1,10 +1,10 @@
 -- What is left of a list over places when one is added or taken away.
-use Rattle.std.proofs.Common.{◌≡◌, ℕ, zero, suc, ◌+◌, ◌-◌, ◌<◌, ◌≤◌, Bool, true, false, cond, ltb, List as Seq, [], ◌∷◌, ◌++◌, length, get_or, take, drop, set, is_ok, Some, None, Option, Result, sym, refl, ap, ◌∙◌, append_assoc, add-one, arith, length-append, length-drop, length-set, length-take, length-take-le, take_all, get_or-take, take-suc, take-suc-set, le-ltb, lt-ltb, le-leb, leb-true}
+use Rattle.std.proofs.Common.{◌≡◌, ℕ, zero, suc, ◌+◌, ◌-◌, ◌<◌, ◌≤◌, Bool, true, false, List as Seq, [], ◌∷◌, ◌++◌, length, get_or, take, drop, set, is_ok, Some, None, Result, sym, refl, ap, ◌∙◌, append_assoc, add-one, arith, length-append, length-drop, length-take, length-take-le, take_all, get_or-take, take-suc, take-suc-set, le-ltb, lt-ltb, le-leb, leb-true}
 use lib.Seq.{take-append_seam}
-use borrow.Author.Tests.{lt-leb, no_way}
+use borrow.Author.Tests.{lt-leb}
 use Rattle.std.specs.List.{slice_get}
 use Rattle.std.proofs.lemmas.Option.{slice_get-get_or, slice_get_past}
-use Rattle.list.specs.Lists.{newest, newest_of, older, older_of, added, has_room, free, fits, fronted, replaced}
+use Rattle.list.specs.Lists.{newest, older, added, has_room, free, fits, fronted, replaced}
 use Rattle.list.specs.Answers.{answered}
 use Rattle.list.specs.declared.lent.Full.{Full}
 

@@ -1,5 +1,5 @@
 -- A list over lent places, for every kind of element: what it holds, oldest first, and what each call leaves.
-use Rattle.std.specs.Prelude.{ℕ, ◌-◌, Bool, true, false, cond, List as Seq, [], ◌∷◌, ◌++◌, length, take, drop, Some, None, Option, nat_le, nat_lt}
+use Rattle.std.specs.Prelude.{ℕ, ◌-◌, Bool, cond, List as Seq, [], ◌∷◌, ◌++◌, length, take, drop, Some, None, Option, nat_le, nat_lt}
 use Rattle.list.specs.declared.lent.List.{List}
 
 module _ {T : Type 0} where

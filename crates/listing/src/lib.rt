@@ -2,6 +2,8 @@
 //! The program `dump` prints them.
 //! How a line is put together may change unnoticed; its bytes may not.
 
+#![tactic(auto)]
+
 pub mod accepted;
 pub mod bytes;
 pub mod field;

@@ -44,11 +44,11 @@ module _ (N : Numbers) (x : ℕ → N.carrier) where
   factors_lowered a i j [] h = absurd h
   factors_lowered a i zero (zero ∷ es) h = absurd h
   factors_lowered a i zero (suc e ∷ es) h =
-      rw NatL.add_zero (L.same_trans N (factors_same (a ⊗ (V.raised N (x i) e ⊗ x i)) (a ⊗ V.raised N (x i) e ⊗ x i) (suc i) es (L.same_sym N (mul_assoc a (V.raised N (x i) e) (x i)))) (factors_times (a ⊗ V.raised N (x i) e) (x i) (suc i) es))
+      rw NatL.add-zero (L.same_trans N (factors_same (a ⊗ (V.raised N (x i) e ⊗ x i)) (a ⊗ V.raised N (x i) e ⊗ x i) (suc i) es (L.same_sym N (mul_assoc a (V.raised N (x i) e) (x i)))) (factors_times (a ⊗ V.raised N (x i) e) (x i) (suc i) es))
   factors_lowered a i (suc j) (e ∷ es) h = rw (NatL.add-suc, ← NatL.suc-add) (factors_lowered (a ⊗ V.raised N (x i) e) (suc i) j es h)
 
   term_lowered : (j : ℕ) (t : Term) → T (has j t.exponents) → term_of (values N) x t ≈ term_of (values N) x (lower j t) ⊗ x j
-  term_lowered j t h = rw NatL.zero_add at (factors_lowered (V.count N t.coefficient) 0 j t.exponents h)
+  term_lowered j t h = rw NatL.zero-add at (factors_lowered (V.count N t.coefficient) 0 j t.exponents h)
 
   -- a = b xⱼ + c stays so from term to term
   terms_split : (j : ℕ) (a b c : carrier) (ts : List Term) → a ≈ b ⊗ x j ⊕ c

@@ -1,6 +1,8 @@
 //! Narrows the starting box of each sheet that `names.txt` names by each contractor, and prints what it answered.
 //! The expected output was worked out by tools/reference.py, which was written apart from the proved code.
 
+#![tactic(auto)]
+
 use contractor::contractor::Contractor;
 use contractor::layers::{Then, Until};
 use contractor::solving::narrowed_by;

@@ -1,5 +1,7 @@
 //! Reads a sheet from standard input and prints each row's span and nominal over the starting box, with the sheet's nominals inside.
 
+#![tactic(auto)]
+
 use anyhow::anyhow;
 use program::fault::{ProgramFault, fault_line};
 use program::intake::take_in;

@@ -149,7 +149,7 @@ module _ (N : Numbers) where
   nat_zero = same_refl zero
 
   pub nat_add : (m n : ℕ) → nat (m + n) ≈ nat m ⊕ nat n
-  nat_add Nat.zero n = rw NatL.zero_add (grw (walk, same_sym (zero_add (nat n)), same_sym nat_zero))
+  nat_add Nat.zero n = rw NatL.zero-add (grw (walk, same_sym (zero_add (nat n)), same_sym nat_zero))
   nat_add (suc m) n = rw NatL.suc-add (grw (walk, nat_suc (m + n), nat_add m n, same_sym (add_assoc one (nat m) (nat n)), same_sym (nat_suc m)))
 
   pub copies_is : (n : ℕ) (x : carrier) → copies zero ◌⊕◌ n x ≈ nat n ⊗ x

@@ -27,7 +27,7 @@ module _ (N : Numbers) where
 
   pub raised_add : (x : carrier) (m n : ℕ) → raised x (m + n) ≈ raised x m ⊗ raised x n
   unfolding V.raised
-  raised_add x m Nat.zero = rw NatL.add_zero (L.same_sym N (mul_one (raised x m)))
+  raised_add x m Nat.zero = rw NatL.add-zero (L.same_sym N (mul_one (raised x m)))
   raised_add x m (suc n) = rw NatL.add-suc (grw (walk, raised_add x m n, mul_assoc (raised x m) (raised x n) x))
 
   pub raised_mul : (x y : carrier) (n : ℕ) → raised (x ⊗ y) n ≈ raised x n ⊗ raised y n

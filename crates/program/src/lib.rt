@@ -2,5 +2,7 @@
 //! `dump`, `nominal` and `ranges` rest on it.
 //! How the input is read may change unnoticed; the refusal that a fault is told as may not.
 
+#![tactic(auto)]
+
 pub mod fault;
 pub mod intake;

@@ -1,5 +1,7 @@
 //! Reads a sheet from standard input and sorts its starting box: feasible boxes, where every frame passes, undecided ones, and what is left.
 
+#![tactic(auto)]
+
 use anyhow::anyhow;
 use contractor::layers::{Then, Until};
 use contractor::rules::Widest;

@@ -2,5 +2,7 @@
 //! The programs `nominal`, `ranges` and `vectors` print them.
 //! How a line is put together may change unnoticed; its bytes may not.
 
+#![tactic(auto)]
+
 pub mod ranges;
 pub mod row;

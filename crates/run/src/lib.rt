@@ -2,6 +2,8 @@
 //! The program `ranges` and its report rest on it.
 //! How the hand, the count and the lists are kept may change unnoticed.
 
+#![tactic(auto)]
+
 pub mod desk;
 pub mod run;
 pub mod shape;

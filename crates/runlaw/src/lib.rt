@@ -2,5 +2,7 @@
 //! The run's code keeps to these definitions, and opening a run promises the law that is proved here.
 //! How the law is proved may change unnoticed.
 
+#![tactic(auto)]
+
 pub mod judged;
 pub mod shape;

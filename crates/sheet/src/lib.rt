@@ -1,3 +1,5 @@
+#![tactic(auto)]
+
 mod decode;
 pub mod field;
 mod gather;

@@ -1,6 +1,8 @@
 //! Solves every sheet that `names.txt` names, as `ranges` does, and prints the reports one after another.
 //! The expected output comes from programs written apart from this one (docs/VECTORS.md).
 
+#![tactic(auto)]
+
 use contractor::layers::{Then, Until};
 use contractor::rules::Widest;
 use enclosure::enclosure::Enclosure;

@@ -2,5 +2,7 @@
 //! The program `ranges` makes this call.
 //! The order of work may change unnoticed as long as it is one of taking and settling.
 
+#![tactic(auto)]
+
 pub mod shape;
 pub mod solve;

@@ -1,5 +1,5 @@
 -- Boxes: the spans of their variables, a box with another span, the halves, and the box of a list of spans. Variables are numbered from 0.
-use Rattle.std.specs.Prelude.{◌≡◌, ℕ, ◌+◌, ◌-◌, ◌<◌, ◌≤◌, cond, List, ◌++◌, map, length, replicate, ℤ, pos, Some, None, Option, nat_lt, slice_index_or, slice_set}
+use Rattle.std.specs.Prelude.{◌≡◌, ℕ, ◌-◌, ◌<◌, ◌≤◌, cond, List, ◌++◌, map, length, replicate, ℤ, pos, Some, None, Option, nat_lt, slice_index_or, slice_set}
 use Rattle.std.proofs.Math.Decide.{dec_le}
 use Rattle.std.proofs.Common.{arith, ◌∙◌, length-set, length-append}
 use Rattle.std.specs.Int.Signed.{le_z_yes}

@@ -1,6 +1,8 @@
 //! Reads every sheet that `names.txt` names and prints, for each, how it was read and each row over its starting box.
 //! The expected output comes from programs written apart from this one (docs/VECTORS.md).
 
+#![tactic(auto)]
+
 use line::refusal::refusal_line;
 use listing::accepted::{Accepted, accepted_line};
 use program::fault::refusal_of;

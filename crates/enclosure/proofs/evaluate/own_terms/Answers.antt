@@ -24,4 +24,4 @@ returns-then-k-i c =
     ∙ ap (own (drop k rows) rest) (let e = c.if-k-i.true in omega arith) ∙ c.loop-k.invariant.1
 
 pub returns : goal.returns
-returns c = c.split-at.ensures.front ∙ sym (own_none c.rows-rows.result.now c.loop-k.k (c.args.i - c.loop-k.k) c.loop-k.rest.now c.loop-k-test.false) ∙ c.loop-k.invariant.1
+returns c = c.split_at.ensures.front ∙ sym (own_none c.rows-rows.result.now c.loop-k.k (c.args.i - c.loop-k.k) c.loop-k.rest.now c.loop-k-test.false) ∙ c.loop-k.invariant.1

@@ -7,6 +7,6 @@ returns c =
     let k = c.args.own in
     let rest = c.args.rest.now in
     record {
-      own = c.split-at.ensures.front ∙ ap (λ (m : ℕ). take m rest) c.min.ensures ∙ take_least k rest;
-      more = c.split-at.ensures.back ∙ ap (λ (m : ℕ). drop m rest) c.min.ensures ∙ drop_least k rest;
+      own = c.split_at.ensures.front ∙ ap (λ (m : ℕ). take m rest) c.min.ensures ∙ take_least k rest;
+      more = c.split_at.ensures.back ∙ ap (λ (m : ℕ). drop m rest) c.min.ensures ∙ drop_least k rest;
     }

@@ -7,8 +7,8 @@ use Rattle.enclosure.proofs.judge.judge.Goals as goal
 
 pub loop-row-preserved : goal.loop-row-preserved
 loop-row-preserved g c =
-    judge_turn g.E.Enclosure c.args.b.now (numbers c.args.inside.now) c.n-n.result c.rows-rows.result.now c.loop-row.row-index c.row-item.result c.loop-row.rest.now c.parted.result.0.now c.parted.result.1.now c.loop-row.all c.total-e.result c.span.result c.judge-row-j.result c.join-all.result
-    c.row-item.is c.loop-row-test.true c.parted.ensures.own c.parted.ensures.more c.total-e.ensures c.span.ensures c.judge-row-j.ensures.answer c.join-all.ensures ∙ c.loop-row.invariant
+    judge_turn g.E.Enclosure c.args.b.now (numbers c.args.inside.now) c.n-n.result c.rows-rows.result.now c.loop-row.row-index c.row-item.result c.loop-row.rest.now c.parted.result.0.now c.parted.result.1.now c.loop-row.all c.total-e.result c.span.result c.judge_row-j.result c.join-all.result
+    c.row-item.is c.loop-row-test.true c.parted.ensures.own c.parted.ensures.more c.total-e.ensures c.span.ensures c.judge_row-j.ensures.answer c.join-all.ensures ∙ c.loop-row.invariant
 
 pub returns : goal.returns
 returns g c =

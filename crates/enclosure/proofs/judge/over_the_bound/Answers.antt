@@ -7,4 +7,4 @@ use Rattle.enclosure.proofs.judge.over_the_bound.Goals as goal
 
 pub returns : goal.returns
 unfolding stretch
-returns c = record { answer = c.judge-row.ensures.answer ∙ ap (λ (r : Reach). judged_row (AtMost (pos 131072)) r) c.between.ensures; at = refl; past = refl; over = refl }
+returns c = record { answer = c.judge_row.ensures.answer ∙ ap (λ (r : Reach). judged_row (AtMost (pos 131072)) r) c.between.ensures; at = refl; past = refl; over = refl }

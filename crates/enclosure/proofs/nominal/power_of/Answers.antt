@@ -11,7 +11,7 @@ pub loop-i-init : goal.loop-i-init
 loop-i-init c = power_zero c.args.p c.around-all.result c.between-one.result c.between-one.ensures c.around-all.ensures.span c.around-all.ensures.count
 
 pub loop-i-preserved : goal.loop-i-preserved
-loop-i-preserved c = c.product-of-all.ensures ∙ ap (λ (r : NominalReach). nominal_product r c.args.p) c.loop-i.invariant ∙ sym (power_more c.args.p c.loop-i.i)
+loop-i-preserved c = c.product_of-all.ensures ∙ ap (λ (r : NominalReach). nominal_product r c.args.p) c.loop-i.invariant ∙ sym (power_more c.args.p c.loop-i.i)
 
 pub returns : goal.returns
 returns c = c.loop-i.invariant ∙ ap (nominal_power c.args.p) (omega arith)

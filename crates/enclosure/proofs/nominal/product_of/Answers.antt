@@ -11,8 +11,8 @@ around-requires c =
     let b = c.in-Closed-q.b in
     let fa = nominal_fits a in
     let fb = nominal_fits b in
-    let fm : SFits w64 c.product-down-m.result = search rules in
-    let m : c.product-down-m.result ≡ floor (a.nominal *ℤ b.nominal) 65536 = simp to_z-of_z at c.product-down-m.ensures in
+    let fm : SFits w64 c.product_down-m.result = search rules in
+    let m : c.product_down-m.result ≡ floor (a.nominal *ℤ b.nominal) 65536 = simp to_z-of_z at c.product_down-m.ensures in
     simp to_z-of_z (rw m (product_around a b c.product-s.result c.product-s.ensures.answer))
 
 pub returns-in-Closed-q : goal.returns-in-Closed-q
@@ -21,8 +21,8 @@ returns-in-Closed-q c =
     let b = c.in-Closed-q.b in
     let fa = nominal_fits a in
     let fb = nominal_fits b in
-    let fm : SFits w64 c.product-down-m.result = search rules in
-    let m : c.product-down-m.result ≡ floor (a.nominal *ℤ b.nominal) 65536 = simp to_z-of_z at c.product-down-m.ensures in
-    let e : nominal_at c.around.result ≡ nominal_in c.product-s.result c.product-down-m.result = simp to_z-of_z at c.around.ensures.count in
+    let fm : SFits w64 c.product_down-m.result = search rules in
+    let m : c.product_down-m.result ≡ floor (a.nominal *ℤ b.nominal) 65536 = simp to_z-of_z at c.product_down-m.ensures in
+    let e : nominal_at c.around.result ≡ nominal_in c.product-s.result c.product_down-m.result = simp to_z-of_z at c.around.ensures.count in
     product_made c.args.p c.args.q a b c.around.result c.product-s.result c.in-Closed.is c.in-Closed-q.is c.product-s.ensures.answer c.around.ensures.span
     (e ∙ ap (nominal_in c.product-s.result) m)

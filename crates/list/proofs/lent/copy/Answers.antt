@@ -1,4 +1,4 @@
-use Rattle.std.proofs.Common.{refl, arith}
+use Rattle.std.proofs.Common.{arith}
 use Rattle.list.proofs.Lists.{copy_next, copy_all}
 use Rattle.list.proofs.lent.copy.Goals as goal
 

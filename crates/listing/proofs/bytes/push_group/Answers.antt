@@ -4,4 +4,4 @@ use Rattle.line.proofs.Growing.{two}
 use Rattle.listing.proofs.bytes.push_group.Goals as goal
 
 pub returns : goal.returns
-returns c = two _ (vec_items c.push-text.new.line) (vec_items c.args.line.now) (codes " ") (hexes c.args.bytes.now) c.in-ok-push-text.ensures c.in-ok-push-hexes.ensures
+returns c = two _ (vec_items c.push_text.new.line) (vec_items c.args.line.now) (codes " ") (hexes c.args.bytes.now) c.in_ok-push_text.ensures c.in_ok-push_hexes.ensures

@@ -4,6 +4,6 @@ use Rattle.line.proofs.Growing.{two}
 use Rattle.listing.proofs.field.push_tolerance.Goals as goal
 
 pub returns : goal.returns
-returns c = two _ (vec_items c.push-text.new.line) (vec_items c.args.line.now) (codes "tolerance ") (decimal (number_in c.args.content.now))
-    c.in-ok-push-text.ensures
-    (c.in-ok-push-count.ensures ∙ ap (λ (n : ℕ). vec_items c.push-text.new.line ++ decimal n) c.number.ensures)
+returns c = two _ (vec_items c.push_text.new.line) (vec_items c.args.line.now) (codes "tolerance ") (decimal (number_in c.args.content.now))
+    c.in_ok-push_text.ensures
+    (c.in_ok-push_count.ensures ∙ ap (λ (n : ℕ). vec_items c.push_text.new.line ++ decimal n) c.number.ensures)

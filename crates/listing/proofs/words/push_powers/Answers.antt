@@ -6,7 +6,7 @@ use Rattle.listing.proofs.words.push_powers.Goals as goal
 
 pub loop-i-preserved : goal.loop-i-preserved
 loop-i-preserved c =
-    turn _ _ _ _ _ _ c.in-ok-push-power.ensures
+    turn _ _ _ _ _ _ c.in_ok-push_power.ensures
     (powers_next c.args.names.now c.args.exponents.now c.loop-i.i c.index-names-i.result (let e = c.min-i-end.ensures in omega arith) (let e = c.min-i-end.ensures in omega arith) c.index-names-i.is) c.loop-i.invariant
 
 pub returns : goal.returns

@@ -6,6 +6,6 @@ use Rattle.line.proofs.Growing.{two}
 use Rattle.listing.proofs.words.push_term.Goals as goal
 
 pub returns : goal.returns
-returns c = two _ (vec_items c.push-bytes.new.line) (vec_items c.args.line.now) (coefficient_words (term_in c.args.content.now)) (powers_words (map name_is c.args.names.now) (drop 4 c.args.content.now))
-    (c.in-ok-push-bytes.ensures ∙ ap (λ (xs : List ℕ). vec_items c.args.line.now ++ xs) (c.as-bytes.ensures.value ∙ c.in-ok-coefficient.ensures))
-    (c.in-ok-push-powers.ensures ∙ ap (λ (xs : List ℕ). vec_items c.push-bytes.new.line ++ powers_words (map name_is c.args.names.now) xs) c.after.ensures)
+returns c = two _ (vec_items c.push_bytes.new.line) (vec_items c.args.line.now) (coefficient_words (term_in c.args.content.now)) (powers_words (map name_is c.args.names.now) (drop 4 c.args.content.now))
+    (c.in_ok-push_bytes.ensures ∙ ap (λ (xs : List ℕ). vec_items c.args.line.now ++ xs) (c.as_bytes.ensures.value ∙ c.in_ok-coefficient.ensures))
+    (c.in_ok-push_powers.ensures ∙ ap (λ (xs : List ℕ). vec_items c.push_bytes.new.line ++ powers_words (map name_is c.args.names.now) xs) c.after.ensures)

@@ -3,8 +3,8 @@ use Rattle.std.proofs.lemmas.Int.{to_z-of_z}
 use Rattle.narrowing.proofs.Turns.{degree_lower}
 use Rattle.narrowing.proofs.parts.lower.Goals as goal
 
-pub invariant-of-result : goal.invariant-of-result
-invariant-of-result c =
+pub invariant_of-result : goal.invariant_of-result
+invariant_of-result c =
     let t = c.args.t.now in
     let f : SFits w32 t.coefficient = search rules in
     (length-set t.exponents c.args.j _ ∙ t.whole, (rw (to_z-of_z w32 t.coefficient f) t.least, (let h = degree_lower c.args.j t.exponents in let k = t.small in omega arith, tt)))

@@ -28,4 +28,4 @@ returns-in-Some-within c =
     let few : j < length b.spans = let p = c.requires.few in let q = c.requires.there in let w = b.whole in omega arith in
     let e = aimed_at (line c.args.n c.args.bounds c.args.ts.now) j b (sym c.holds.ensures ∙ c.if-not-holds.false) c.in-Some.t c.slope-a.result c.remainder-r.result c.difference.result c.quotient-x.result (get_or b.spans j c.index-b-j.result)
     (sym c.in-Some.is ∙ c.aim.ensures) c.slope-a.ensures c.remainder-r.ensures c.difference.ensures.answer c.quotient-x.ensures.answer (get_or_default b.spans j c.index-b-j.result nought few) in
-    ap Some c.with-span.ensures ∙ ap (replaced b j) (sym c.in-Some-within.is ∙ c.within.ensures.answer) ∙ e
+    ap Some c.with_span.ensures ∙ ap (replaced b j) (sym c.in-Some-within.is ∙ c.within.ensures.answer) ∙ e

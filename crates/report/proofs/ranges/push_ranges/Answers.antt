@@ -6,7 +6,7 @@ use Rattle.report.proofs.ranges.push_ranges.Goals as goal
 
 pub loop-i-preserved : goal.loop-i-preserved
 loop-i-preserved c =
-    turn _ _ _ _ _ _ c.in-ok-push-range.ensures
+    turn _ _ _ _ _ _ c.in_ok-push_range.ensures
     (ranges_next c.args.variables.now c.args.spans.now c.loop-i.i c.index-variables-i.result c.index-spans-i.result (let e = c.min-i-end.ensures in omega arith) (let e = c.min-i-end.ensures in omega arith) c.index-variables-i.is c.index-spans-i.is) c.loop-i.invariant
 
 pub returns : goal.returns

@@ -3,7 +3,7 @@ use Rattle.numbers.specs.Rows.{degree}
 use Rattle.sheet.proofs.Decoding.{degree_widened}
 use Rattle.sheet.proofs.decode.term.Goals as goal
 
-pub invariant-of-result : goal.invariant-of-result
-invariant-of-result c =
+pub invariant_of-result : goal.invariant_of-result
+invariant_of-result c =
     let e : degree c.eight.result ≡ degree c.after-powers.result.now = ap degree c.eight.ensures ∙ degree_widened c.after-powers.result.now in
-    (search rules, (search rules, (omega (arith, c.degree-of.ensures), tt)))
+    (search rules, (search rules, (omega (arith, c.degree_of.ensures), tt)))

@@ -7,13 +7,13 @@ use Rattle.sheet.proofs.gather.gather_variable.Goals as goal
 pub returns-in-default : goal.returns-in-default
 returns-in-default c = λ vs held. variable_stops c.args.g.now c.args.g.now vs held c.args.place (variable_in c.args.bytes.now) c.if-g-ge8.false c.in-default.ensures
 
-pub returns-then-name-taken : goal.returns-then-name-taken
-returns-then-name-taken c = λ vs held.
+pub returns-then-name_taken : goal.returns-then-name_taken
+returns-then-name_taken c = λ vs held.
     variable_taken c.args.g.now c.args.g.now vs held c.args.place c.in-Some.v (variable_in c.args.bytes.now) c.if-g-ge8.false c.in-Some.ensures
-    (c.if-name-taken.ensures ∙ ap (λ (m : ℕ). taken (name_is c.in-Some.v.name) (map variable_is (take m c.args.g.now.variables))) (omega arith))
+    (c.if-name_taken.ensures ∙ ap (λ (m : ℕ). taken (name_is c.in-Some.v.name) (map variable_is (take m c.args.g.now.variables))) (omega arith))
 
 pub returns : goal.returns
 returns c = λ vs held.
     variable_goes c.args.g.now _ vs held c.args.place c.in-Some.v (variable_in c.args.bytes.now) c.if-g-ge8.false c.in-Some.ensures
-    (c.if-name-taken.ensures ∙ ap (λ (m : ℕ). taken (name_is c.in-Some.v.name) (map variable_is (take m c.args.g.now.variables))) (omega arith))
+    (c.if-name_taken.ensures ∙ ap (λ (m : ℕ). taken (name_is c.in-Some.v.name) (map variable_is (take m c.args.g.now.variables))) (omega arith))
     refl refl refl refl refl refl c.requires.1.1.1

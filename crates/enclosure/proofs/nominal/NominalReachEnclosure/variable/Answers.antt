@@ -6,8 +6,8 @@ use Rattle.enclosure.specs.Between.{brought, brought_above, brought_under}
 use Rattle.enclosure.proofs.Nominals.{variable_made}
 use Rattle.enclosure.proofs.nominal.NominalReachEnclosure.variable.Goals as goal
 
-pub invariant-of-result : goal.invariant-of-result
-invariant-of-result c =
+pub invariant_of-result : goal.invariant_of-result
+invariant_of-result c =
     let s = c.args.s in
     let lo = lo_fits s in
     let hi = hi_fits s in

@@ -1,4 +1,4 @@
-use Rattle.std.proofs.Common.{refl, rules}
+use Rattle.std.proofs.Common.{refl}
 use Rattle.list.proofs.Lists.{pop_gives, pop_holds}
 use Rattle.list.proofs.lent.List.pop.Goals as goal
 

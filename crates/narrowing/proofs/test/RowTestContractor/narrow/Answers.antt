@@ -10,9 +10,9 @@ use Rattle.narrowing.proofs.test.RowTestContractor.narrow.Goals.{in-Met, in-Unsu
 pub loop-row-preserved : goal.loop-row-preserved
 loop-row-preserved c =
     let left : Option Region = tested (lines_from c.n-n.result (drop (c.loop-row.row-index + 1) c.rows-rows.result.now) c.parted.result.1.now) c.args.b.now in
-    let turn = test_turn c.n-n.result c.rows-rows.result.now c.loop-row.row-index c.loop-row.rest.now c.args.b.now c.row-item.result c.parted.result.0.now c.parted.result.1.now c.row-item.is c.loop-row-test.true c.parted.ensures.own c.parted.ensures.more c.total-whole.result c.judge-row.result c.total-whole.ensures c.judge-row.ensures.answer in
+    let turn = test_turn c.n-n.result c.rows-rows.result.now c.loop-row.row-index c.loop-row.rest.now c.args.b.now c.row-item.result c.parted.result.0.now c.parted.result.1.now c.row-item.is c.loop-row_test.true c.parted.ensures.own c.parted.ensures.more c.total-whole.result c.judge_row.result c.total-whole.ensures c.judge_row.ensures.answer in
     let go : Judgement → Option Region = λ j. unless_broken j left in
-    elim c.match-judge-row.branch [
+    elim c.match-judge_row.branch [
       | in-Met w ↦ sym (ap go w.in-Met.is) ∙ turn ∙ c.loop-row.invariant
       | in-Unsure w ↦ sym (ap go w.in-Unsure.is) ∙ turn ∙ c.loop-row.invariant
     ]
@@ -20,9 +20,9 @@ loop-row-preserved c =
 pub returns-in-Broken : goal.returns-in-Broken
 returns-in-Broken c =
     let left : Option Region = tested (lines_from c.n-n.result (drop (c.loop-row.row-index + 1) c.rows-rows.result.now) c.parted.result.1.now) c.args.b.now in
-    let turn = test_turn c.n-n.result c.rows-rows.result.now c.loop-row.row-index c.loop-row.rest.now c.args.b.now c.row-item.result c.parted.result.0.now c.parted.result.1.now c.row-item.is c.loop-row-test.true c.parted.ensures.own c.parted.ensures.more c.total-whole.result c.judge-row.result c.total-whole.ensures c.judge-row.ensures.answer in
+    let turn = test_turn c.n-n.result c.rows-rows.result.now c.loop-row.row-index c.loop-row.rest.now c.args.b.now c.row-item.result c.parted.result.0.now c.parted.result.1.now c.row-item.is c.loop-row_test.true c.parted.ensures.own c.parted.ensures.more c.total-whole.result c.judge_row.result c.total-whole.ensures c.judge_row.ensures.answer in
     let go : Judgement → Option Region = λ j. unless_broken j left in
     sym (ap go c.in-Broken.is) ∙ turn ∙ c.loop-row.invariant
 
 pub returns : goal.returns
-returns c = sym (tested_done c.n-n.result c.rows-rows.result.now c.loop-row.row-index c.loop-row.rest.now c.args.b.now c.loop-row-test.false) ∙ c.loop-row.invariant
+returns c = sym (tested_done c.n-n.result c.rows-rows.result.now c.loop-row.row-index c.loop-row.rest.now c.args.b.now c.loop-row_test.false) ∙ c.loop-row.invariant

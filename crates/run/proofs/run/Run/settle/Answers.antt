@@ -11,7 +11,7 @@ returns-in-default g c = record {
 
 pub returns : goal.returns
 returns g c = record {
-  left = rw c.in-Some.is c.settle-box.ensures.left;
-  answer = rw c.in-Some.is c.settle-box.ensures.answer;
+  left = rw c.in-Some.is c.settle_box.ensures.left;
+  answer = rw c.in-Some.is c.settle_box.ensures.answer;
   lawful = settle_lawful _ _ g.E.Enclosure (g.C.Contractor.laws c.args.contractor.now) (g.R.SplittingRule.laws c.args.rule.now);
 }

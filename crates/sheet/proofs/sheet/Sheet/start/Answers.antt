@@ -13,4 +13,4 @@ returns c =
     let vs = variables_of c.args.self.now in
     let l = length-take-le c.args.self.now.heading.n c.args.self.now.heading.variables (omega arith) in
     let m : c.args.self.now.heading.n ≡ length (map span_of vs) = sym (length-map vs span_of ∙ l) in
-    c.new.ensures ∙ ap boxed (ap (take (c.args.self.now.heading.n - 0)) c.spans-of-spans.ensures ∙ filled_front nought (map span_of vs) c.args.self.now.heading.n m)
+    c.new.ensures ∙ ap boxed (ap (take (c.args.self.now.heading.n - 0)) c.spans_of-spans.ensures ∙ filled_front nought (map span_of vs) c.args.self.now.heading.n m)

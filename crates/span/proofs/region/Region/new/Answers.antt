@@ -11,10 +11,14 @@ loop-i-preserved c =
     let d = c.index-spans-i.result in
     ap (λ (s : Span). set c.loop-i.all i s) c.index-spans-i.is ∙ ap (λ l. set l i (get_or ss i d)) c.loop-i.invariant ∙ front_more ss i d c.loop-i-test.true c.if-n-gt8.false
 
-pub invariant-of-result : goal.invariant-of-result
-invariant-of-result c =
+pub invariant_of-result : goal.invariant_of-result
+invariant_of-result c =
     let ss = c.args.spans.now in
-    (c.if-n-lt1.false, (c.if-n-gt8.false, (ap length (filled ss c.loop-i.all c.loop-i.i c.loop-i-test.false c.loop-i.auto.i-end c.loop-i.invariant) ∙ padded_whole ss c.if-n-gt8.false, tt)))
+    record {
+      some = c.if-n-lt1.false;
+      few = c.if-n-gt8.false;
+      whole = ap length (filled ss c.loop-i.all c.loop-i.i c.loop-i-test.false c.loop-i.auto.i-end c.loop-i.invariant) ∙ padded_whole ss c.if-n-gt8.false;
+    }
 
 pub returns : goal.returns
 returns c =

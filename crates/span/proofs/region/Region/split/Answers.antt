@@ -8,6 +8,6 @@ pub returns : goal.returns
 returns c =
     let b = c.args.self.now in
     let j = c.args.j in
-    let l = c.with-span.ensures ∙ ap (λ (p : Span × Span). with_span b j p.0) c.halves.ensures ∙ ap (λ (s : Span). with_span b j (lower s)) c.span.ensures in
-    let u = c.with-span-2.ensures ∙ ap (λ (p : Span × Span). with_span b j p.1) c.halves.ensures ∙ ap (λ (s : Span). with_span b j (upper s)) c.span.ensures in
+    let l = c.with_span.ensures ∙ ap (λ (p : Span × Span). with_span b j p.0) c.halves.ensures ∙ ap (λ (s : Span). with_span b j (lower s)) c.span.ensures in
+    let u = c.with_span-2.ensures ∙ ap (λ (p : Span × Span). with_span b j p.1) c.halves.ensures ∙ ap (λ (s : Span). with_span b j (upper s)) c.span.ensures in
     λ i. (l i, u i)

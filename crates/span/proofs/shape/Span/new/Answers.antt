@@ -3,5 +3,5 @@ use borrow.Author.Differences.{ints}
 use Rattle.span.proofs.Alike.{made_closed}
 use Rattle.span.proofs.shape.Span.new.Goals as goal
 
-pub returns-then-is-count : goal.returns-then-is-count
-returns-then-is-count c = made_closed _ c.args.lo c.args.hi (omega (arith, ints)) (omega (arith, ints))
+pub returns-then-is_count : goal.returns-then-is_count
+returns-then-is_count c = made_closed _ c.args.lo c.args.hi (omega (arith, ints)) (omega (arith, ints))
