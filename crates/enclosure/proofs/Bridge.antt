@@ -165,16 +165,16 @@ module _ (N : Numbers) (p : Point) (x : ℕ → N.carrier) (near : (i : ℕ) →
     (λ k. L.mul_cancel N scale_positive (le_trans (count_is m).up (le_trans (L.int_mono N k) (row_is ts s).down))),
   )
 
-  at_most : (m : ℤ) (ts : List Term) → Small ts → (value N x ts ≼ V.count N m) ↔ (whole p ts ≤ℤ (m *ℤ pos (p.den ^ 4)))
-  at_most m ts s = (
+  at_most_is : (m : ℤ) (ts : List Term) → Small ts → (value N x ts ≼ V.count N m) ↔ (whole p ts ≤ℤ (m *ℤ pos (p.den ^ 4)))
+  at_most_is m ts s = (
     (λ k. L.int_back N (le_trans (row_is ts s).down (le_trans (L.mul_mono N scale_positive.over k) (count_is m).up))),
     (λ k. L.mul_cancel N scale_positive (le_trans (row_is ts s).up (le_trans (L.int_mono N k) (count_is m).down))),
   )
 
   pub meets_is : (k : Bounds) (ts : List Term) → Small ts → Meets N k (value N x ts) ↔ Met p k (whole p ts)
   meets_is (AtLeast lo) ts s = at_least lo ts s
-  meets_is (AtMost hi) ts s = at_most hi ts s
-  meets_is (Between t) ts s = (λ h. ((at_least t.lo ts s).0 h.0, (at_most t.hi ts s).0 h.1), λ h. ((at_least t.lo ts s).1 h.0, (at_most t.hi ts s).1 h.1))
+  meets_is (AtMost hi) ts s = at_most_is hi ts s
+  meets_is (Between t) ts s = (λ h. ((at_least t.lo ts s).0 h.0, (at_most_is t.hi ts s).0 h.1), λ h. ((at_least t.lo ts s).1 h.0, (at_most_is t.hi ts s).1 h.1))
 
   pub lies_is : (b : Region) → Lies p b ↔ In N x b
   lies_is b = (λ h i l. within_in (at b i) i (h i l), λ h i l. within_out (at b i) i (h i l))

@@ -1,5 +1,7 @@
 -- NominalReach spans are equal when their spans and their counts are, and what the code gives.
 use Rattle.std.proofs.Common.{◌≡◌, ℕ, ◌+◌, ℤ, pos, ◌+ℤ◌, ◌*ℤ◌, ◌≤ℤ◌, sym, refl, ap, ◌∙◌, subst, add-one, arith, w32, SFits}
+use mathlib.Core.HLevel.{is_prop→PathP}
+use lib.Dec.{T_prop}
 use Rattle.std.proofs.lemmas.Int.{ints}
 use lib.Signed.{le_z, ≤ℤ_refl}
 use Rattle.numbers.specs.Rounding.{floor}
@@ -17,7 +19,34 @@ use Rattle.enclosure.specs.declared.shape.NominalReach.{NominalReach}
 use Rattle.enclosure.specs.declared.shape.NominalReach.TheVariants.{Open, Closed}
 use Rattle.enclosure.specs.Between.{Amid, product_amid, sum_amid, brought}
 use Rattle.enclosure.specs.Plain.{plain_number}
-use Rattle.enclosure.specs.Nominals.{fitted, amid, nominal_number, nominal_variable, nominal_sum, nominal_product, nominal_power, nominal_span, nominal_at, nominal_in, Around, same_middled, same_nominal, fitted_at, number_span, sum_span, product_span}
+use Rattle.enclosure.specs.Nominals.{fitted, amid, nominal_number, nominal_variable, nominal_sum, nominal_product, nominal_power, nominal_span, nominal_at, nominal_in, Around, number_span, sum_span, product_span}
+
+≤ℤ_prop : (a b : ℤ) → IsProp (a ≤ℤ b)
+≤ℤ_prop a b p q = λ i. record { le = T_prop (le_z a b) p.le q.le i }
+
+same_middled : (a b : NominalSpan) → a.span ≡ b.span → a.nominal ≡ b.nominal → a ≡ b
+same_middled a b p q = λ i. record {
+  span = p i;
+  nominal = q i;
+  above = is_prop→PathP (λ j. (p j).lo ≤ℤ q j) (λ j. ≤ℤ_prop (p j).lo (q j)) a.above b.above i;
+  under = is_prop→PathP (λ j. q j ≤ℤ (p j).hi) (λ j. ≤ℤ_prop (q j) (p j).hi) a.under b.under i;
+}
+
+-- the span of a closed reach
+span_of : Span → Reach → Span
+span_of d R.Open = d
+span_of d (R.Closed s) = s
+
+abbrev IsOpen : Reach → Type 0
+IsOpen R.Open = Unit {0}
+IsOpen (R.Closed s) = ⊥
+
+pub same_nominal : (p q : NominalReach) → nominal_span p ≡ nominal_span q → nominal_at p ≡ nominal_at q → p ≡ q
+unfolding span_of
+same_nominal Open Open e f = refl
+same_nominal Open (Closed b) e f = absurd (subst IsOpen e tt)
+same_nominal (Closed a) Open e f = absurd (subst IsOpen (sym e) tt)
+same_nominal (Closed a) (Closed b) e f = ap Closed (same_middled a b (ap (span_of a.span) e) f)
 
 -- what is between the ends e is around their reach
 pub around_reach : (e : Ends) (m : ℤ) → Amid e m → Around (reach e) m
@@ -27,6 +56,10 @@ around_reach e m h = by (fit? e.from e.to)
     by : (d : Dec (Fit e.from e.to)) → Around (reached e.from e.to d) m
     by (yes f) = h
     by (no n) = tt
+
+fitted_at : (e : Ends) (m : ℤ) (h : Amid e m) (d : Dec (Fit e.from e.to)) → nominal_at (fitted e m h d) ≡ nominal_in (reached e.from e.to d) m
+fitted_at e m h (yes f) = refl
+fitted_at e m h (no n) = refl
 
 -- what the code makes of a reach and a count
 pub number_made : (c : ℤ) (n : NominalReach) (r : Reach) → r ≡ plain_number c → nominal_span n ≡ r → nominal_at n ≡ nominal_in r c → n ≡ nominal_number c

@@ -10,7 +10,7 @@ use Rattle.enclosure.specs.declared.enclosure.Enclosure.{Ghosts}
 use Rattle.enclosure.specs.Judging.{joined, judged_row}
 use Rattle.enclosure.specs.Evaluation.{enclosed, judged}
 use Rattle.sheet.specs.declared.shape.Term.{Term as Written}
-use Rattle.enclosure.specs.Rows.{Ops, factors, term_of, terms_from, Line, term, line, lines_from, own}
+use Rattle.enclosure.specs.Rows.{Ops, factors, term_of, terms_from, Line, term, lines_from, own}
 
 module _ {X : Type 0} (O : Ops X) (v : ℕ → X) where
   pub factors_turn : (a : X) (n i : ℕ) (es : List ℕ) → i < n → i < length es → factors O v a i (drop i (take n es)) ≡ factors O v (O.times a (O.power (v i) (get_or es i 0))) (i + 1) (drop (i + 1) (take n es))
@@ -20,10 +20,6 @@ module _ {X : Type 0} (O : Ops X) (v : ℕ → X) where
       let e = drop-cons (take n es) i 0 (omega arith) in
       let g = get_or-take n es i 0 h in
       ap (factors O v a i) e ∙ rw (g, add-one)
-
-  -- a variable with power 0 is passed over
-  pub factors_passed : (a : X) (n i : ℕ) (es : List ℕ) → ((b : X) → O.times a (O.power b 0) ≡ a) → get_or es i 0 ≡ 0 → i < n → i < length es → factors O v a i (drop i (take n es)) ≡ factors O v a (i + 1) (drop (i + 1) (take n es))
-  factors_passed a n i es u z h k = factors_turn a n i es h k ∙ ap (λ (c : X). factors O v c (i + 1) (drop (i + 1) (take n es))) (rw z (u (v i)))
 
   pub factors_done : (a : X) (n i : ℕ) (es : List ℕ) → min n (length es) ≤ i → factors O v a i (drop i (take n es)) ≡ a
   unfolding factors
@@ -69,7 +65,7 @@ drop_least n xs = by (dec_le n (length xs))
 
 -- ---- the rows of a system, one after another: what is left from row i on is row i, and what is left behind it
 pub line_turn : {Y : Type 0} (F : List Line → Y) (n : ℕ) (rows : List Row) (i : ℕ) (r : Row) (rest : List Written) → r ≡ get_or rows i r → i < length rows
-    → F (lines_from n (drop i rows) rest) ≡ F (line n r.bounds (take r.own rest) ∷ lines_from n (drop (i + 1) rows) (drop r.own rest))
+    → F (lines_from n (drop i rows) rest) ≡ F (record { bounds = r.bounds; terms = map (term n) (take r.own rest) } ∷ lines_from n (drop (i + 1) rows) (drop r.own rest))
 unfolding lines_from
 line_turn F n rows i r rest e h = ap (λ (rs : List Row). F (lines_from n rs rest)) (drop-cons rows i r h ∙ ap (λ (q : Row). q ∷ drop (suc i) rows) (sym e)) ∙ rw add-one
 

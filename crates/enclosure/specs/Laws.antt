@@ -1,5 +1,5 @@
 -- What an enclosure owes.
-use Rattle.std.specs.Prelude.{◌≡◌, ℕ, ℤ}
+use Rattle.std.specs.Prelude.{ℕ, ℤ}
 use Rattle.numbers.specs.Numbers.{Numbers}
 use Rattle.numbers.specs.Values as V
 use Rattle.span.specs.declared.shape.Span.{Span}
@@ -16,5 +16,3 @@ pub record EnclosureLaws {X : Type 0} (number : ℤ → X) (variable : ℕ → S
   pub powers : (N : Numbers) (x : ℕ → N.carrier) (a : X) (k : ℕ) (p : N.carrier) → holds N a x p → holds N (power a k) x (V.raised N p k)
   -- its span holds all that it holds
   pub spans : (N : Numbers) (x : ℕ → N.carrier) (a : X) (p : N.carrier) → holds N a x p → Held N (span a) p
-  -- multiplying by power 0 changes nothing
-  pub units : (a b : X) → times a (power b 0) ≡ a

@@ -1,9 +1,7 @@
 -- The nominal span as an enclosure: a span, and a count between its ends.
-use Rattle.std.specs.Prelude.{◌≡◌, ℕ, suc, ℤ, pos, ◌+ℤ◌, ◌*ℤ◌, ◌≤ℤ◌, int_le, refl}
+use Rattle.std.specs.Prelude.{◌≡◌, ℕ, suc, ℤ, pos, ◌+ℤ◌, ◌*ℤ◌, refl}
 use Prim.Native.Nat as Nat
 use Rattle.std.proofs.Common.{sym, ap, ◌∙◌, subst}
-use mathlib.Core.HLevel.{is_prop→PathP}
-use Rattle.std.proofs.Math.Dec.{T_prop}
 use Rattle.std.specs.Int.Signed.{le_z_yes, ≤ℤ_refl}
 use Rattle.numbers.specs.Numbers.{Numbers}
 use Rattle.numbers.specs.Rounding.{floor}
@@ -15,7 +13,6 @@ use Rattle.span.specs.declared.shape.Reach.TheVariants as R
 use Rattle.span.specs.Making.{Fit, fit?, closed}
 use Rattle.span.specs.Holding.{ends}
 use Rattle.arithmetic.specs.Reaches.{stretch, reached, sum, product, power, one}
-use Rattle.arithmetic.proofs.Results.{floor_exact, one_power}
 use Rattle.span.specs.Holding.{Held}
 use Rattle.enclosure.specs.declared.shape.NominalSpan.{NominalSpan}
 use Rattle.enclosure.specs.declared.shape.NominalReach.{NominalReach}
@@ -90,6 +87,19 @@ unfolding nominal_power power
 power_span a Nat.zero = refl
 power_span a (suc k) = product_span (nominal_power a k) a ∙ ap (λ (r : Reach). product r (nominal_span a)) (power_span a k)
 
+moved : (N : Numbers) {r s : Reach} (v : N.carrier) → r ≡ s → Held N s v → Held N r v
+moved N v e h = subst (λ (t : Reach). Held N t v) (sym e) h
+
+pub nominal_laws : EnclosureLaws nominal_number nominal_variable nominal_sum nominal_product nominal_power nominal_span nominal_holds
+nominal_laws = record {
+  numbers = λ N x c. moved N _ (number_span c) (plain_laws.numbers N x c);
+  variables = λ N x i s m h. h;
+  sums = λ N x a b p q h k. moved N _ (sum_span a b) (plain_laws.sums N x (nominal_span a) (nominal_span b) p q h k);
+  products = λ N x a b p q h k. moved N _ (product_span a b) (plain_laws.products N x (nominal_span a) (nominal_span b) p q h k);
+  powers = λ N x a k p h. moved N _ (power_span a k) (plain_laws.powers N x (nominal_span a) k p h);
+  spans = λ N x a p h. h;
+}
+
 -- ---- what a nominal span is made of
 -- its count, and 0 where it is open
 abbrev pub nominal_at : NominalReach → ℤ
@@ -104,58 +114,3 @@ nominal_in (R.Closed s) m = m
 abbrev pub Around : Reach → ℤ → Type 0
 Around R.Open m = Unit {0}
 Around (R.Closed s) m = Amid (ends s) m
-
--- ---- nominal spans are equal when their spans and their counts are
-≤ℤ_prop : (a b : ℤ) → IsProp (a ≤ℤ b)
-≤ℤ_prop a b p q = λ i. record { le = T_prop (int_le a b) p.le q.le i }
-
-pub same_middled : (a b : NominalSpan) → a.span ≡ b.span → a.nominal ≡ b.nominal → a ≡ b
-same_middled a b p q = λ i. record {
-  span = p i;
-  nominal = q i;
-  above = is_prop→PathP (λ j. (p j).lo ≤ℤ q j) (λ j. ≤ℤ_prop (p j).lo (q j)) a.above b.above i;
-  under = is_prop→PathP (λ j. q j ≤ℤ (p j).hi) (λ j. ≤ℤ_prop (q j) (p j).hi) a.under b.under i;
-}
-
--- the span of a closed reach
-span_of : Span → Reach → Span
-span_of d R.Open = d
-span_of d (R.Closed s) = s
-
-abbrev IsOpen : Reach → Type 0
-IsOpen R.Open = Unit {0}
-IsOpen (R.Closed s) = ⊥
-
-pub same_nominal : (p q : NominalReach) → nominal_span p ≡ nominal_span q → nominal_at p ≡ nominal_at q → p ≡ q
-unfolding span_of
-same_nominal Open Open e f = refl
-same_nominal Open (Closed b) e f = absurd (subst IsOpen e tt)
-same_nominal (Closed a) Open e f = absurd (subst IsOpen (sym e) tt)
-same_nominal (Closed a) (Closed b) e f = ap Closed (same_middled a b (ap (span_of a.span) e) f)
-
-pub fitted_at : (e : Ends) (m : ℤ) (h : Amid e m) (d : Dec (Fit e.from e.to)) → nominal_at (fitted e m h d) ≡ nominal_in (reached e.from e.to d) m
-fitted_at e m h (yes f) = refl
-fitted_at e m h (no n) = refl
-
--- multiplying by power 0 changes nothing
-unit : (a b : NominalReach) → nominal_product a (nominal_power b 0) ≡ a
-unfolding nominal_power stretch power
-unit Open b = refl
-unit (Closed a) b =
-    let e = E.product (ends a.span) (ends one) in
-    let p : product (R.Closed a.span) (R.Closed one) ≡ R.Closed a.span = one_power (R.Closed a.span) (nominal_span b) in
-    same_nominal _ (Closed a) (fitted_span e _ _ (fit? e.from e.to) ∙ p) (fitted_at e _ _ (fit? e.from e.to) ∙ ap (λ (t : Reach). nominal_in t (floor (a.nominal *ℤ pos 65536) 65536)) p ∙ floor_exact _ a.nominal refl)
-
-moved : (N : Numbers) {r s : Reach} (v : N.carrier) → r ≡ s → Held N s v → Held N r v
-moved N v e h = subst (λ (t : Reach). Held N t v) (sym e) h
-
-pub nominal_laws : EnclosureLaws nominal_number nominal_variable nominal_sum nominal_product nominal_power nominal_span nominal_holds
-nominal_laws = record {
-  numbers = λ N x c. moved N _ (number_span c) (plain_laws.numbers N x c);
-  variables = λ N x i s m h. h;
-  sums = λ N x a b p q h k. moved N _ (sum_span a b) (plain_laws.sums N x (nominal_span a) (nominal_span b) p q h k);
-  products = λ N x a b p q h k. moved N _ (product_span a b) (plain_laws.products N x (nominal_span a) (nominal_span b) p q h k);
-  powers = λ N x a k p h. moved N _ (power_span a k) (plain_laws.powers N x (nominal_span a) k p h);
-  spans = λ N x a p h. h;
-  units = unit;
-}

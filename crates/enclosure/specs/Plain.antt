@@ -9,7 +9,6 @@ use Rattle.span.specs.declared.shape.Reach.TheVariants.{Closed}
 use Rattle.arithmetic.specs.Reaches.{reach, sum, product, power}
 use Rattle.span.specs.Holding.{Held}
 use Rattle.arithmetic.specs.Inclusion as H
-use Rattle.arithmetic.proofs.Results.{one_power}
 use Rattle.numbers.proofs.Ends as S
 use Rattle.span.specs.declared.region.Region.{Region}
 use Rattle.span.specs.Regions.{at}
@@ -41,5 +40,4 @@ plain_laws = record {
   products = λ N x a b p q. H.product_holds N a b p q;
   powers = λ N x a k p. H.power_holds N a k p;
   spans = λ N x a p h. h;
-  units = λ a b. one_power a b;
 }

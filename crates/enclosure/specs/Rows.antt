@@ -43,14 +43,10 @@ pub record Line : Type 0 where
 abbrev pub term : ℕ → Written → Term
 term n t = record { coefficient = t.coefficient; exponents = take n t.exponents }
 
--- a row as it is written
-abbrev pub line : ℕ → Bounds → List Written → Line
-line n k ts = record { bounds = k; terms = map (term n) ts }
-
 -- each row's terms stand behind those of the rows before it
 unfoldable pub lines_from : ℕ → List Row → List Written → List Line
 lines_from n [] ts = []
-lines_from n (r ∷ rs) ts = line n r.bounds (take r.own ts) ∷ lines_from n rs (drop r.own ts)
+lines_from n (r ∷ rs) ts = record { bounds = r.bounds; terms = map (term n) (take r.own ts) } ∷ lines_from n rs (drop r.own ts)
 
 abbrev pub lines : System → List Line
 lines s = lines_from s.n s.rows.now s.terms.now

@@ -15,11 +15,8 @@ pub fn term<E: Enclosure>(n: usize, t: &Term, b: &Region, inside: &[i32; 8]) -> 
 {
     let mut all = E::number(t.coefficient);
     for i in 0..n.min(8) {
-        let e = t.exponents[i];
-        if e > 0 {
-            let x = E::variable(i, b.spans[i], inside[i]);
-            all = all.product(x.power(e));
-        }
+        let x = E::variable(i, b.spans[i], inside[i]);
+        all = all.product(x.power(t.exponents[i]));
     }
     all
 }

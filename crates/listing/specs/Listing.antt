@@ -1,12 +1,12 @@
 -- The line that lists a field: its place, its bytes in hexadecimal as they are meant, and what they say in words.
-use Rattle.std.specs.Prelude.{ℕ, zero, suc, ◌/◌, ◌%◌, Bool, true, false, cond, List, [], ◌∷◌, ◌++◌, map, length, take, drop, ℤ, Some, None, codes, decimal, Option, nat_lt}
+use Rattle.std.specs.Prelude.{ℕ, zero, suc, ◌/◌, ◌%◌, cond, List, [], ◌∷◌, ◌++◌, map, length, take, drop, Some, None, codes, decimal, Option, nat_lt}
 use Rattle.std.specs.List.{flat_map}
 use Rattle.std.specs.Fmt.{signed_decimal}
 use Rattle.line.specs.Lines.{hexadecimal, padding}
 use Rattle.numbers.specs.Rows.{Term}
 use Rattle.format.specs.Content.{GivenVariable, Limits, at_least, at_most, between}
 use Rattle.format.specs.Written.{FieldKind, a_variable, a_tolerance, a_row, a_term, an_end, tag}
-use Rattle.format.specs.Reading.{number_in, count_in, variable_in, limits_in, term_in, is_letter}
+use Rattle.format.specs.Reading.{number_in, variable_in, limits_in, term_in, is_letter}
 
 -- the line with spaces up to a column
 abbrev pub padded_to : ℕ → List ℕ → List ℕ

@@ -76,7 +76,7 @@ fn values(heap: Global, content: &[u8]) -> Result<String, AllocError>
 pub(crate) fn push_variable(line: &mut Vec<u8>, content: &[u8]) -> Result<(), AllocError>
     ensures { OnOk result (line.new.items ≡ line.old.items ++ variable_words (variable_in content.now)) }
 {
-    let values = values(line.allocator(), content)?;
+    let values = values(*line.allocator(), content)?;
     push_text(line, "variable ")?;
     push_name(line, after(content, 12))?;
     push_bytes(line, values.as_bytes())?;
@@ -142,7 +142,7 @@ fn asked_words(heap: Global, asked: Asked) -> Result<String, AllocError>
 pub(crate) fn push_row(line: &mut Vec<u8>, content: &[u8]) -> Result<(), AllocError>
     ensures { OnOk result (line.new.items ≡ line.old.items ++ row_words (limits_in content.now)) }
 {
-    let words = asked_words(line.allocator(), asked_in(content))?;
+    let words = asked_words(*line.allocator(), asked_in(content))?;
     push_bytes(line, words.as_bytes())?;
     Ok(())
 }
@@ -164,7 +164,7 @@ fn push_power(line: &mut Vec<u8>, name: &Name, e: u8) -> Result<(), AllocError>
     if e == 0 {
         return Ok(());
     }
-    let power = power_words(line.allocator(), e)?;
+    let power = power_words(*line.allocator(), e)?;
     push_text(line, " ")?;
     push_bytes(line, name.bytes())?;
     push_bytes(line, power.as_bytes())?;
@@ -196,7 +196,7 @@ pub(crate) fn push_term(
 ) -> Result<(), AllocError>
     ensures { OnOk result (line.new.items ≡ line.old.items ++ term_words (map name_is names.now) (term_in content.now)) }
 {
-    let coefficient = coefficient(line.allocator(), content)?;
+    let coefficient = coefficient(*line.allocator(), content)?;
     push_bytes(line, coefficient.as_bytes())?;
     push_powers(line, names, after(content, 4))?;
     Ok(())

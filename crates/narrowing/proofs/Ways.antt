@@ -1,5 +1,6 @@
 -- What the code of the row test and of the pass gives on each way.
-use Rattle.std.proofs.Common.{◌≡◌, ℕ, suc, ◌+◌, ◌-◌, ◌<◌, ◌≤◌, true, false, List, ◌∷◌, map, length, get_or, take, drop, Some, None, Option, sym, ap, add-one, arith}
+use Rattle.std.proofs.Common.{◌≡◌, ℕ, suc, ◌+◌, ◌-◌, ◌<◌, ◌≤◌, true, false, List, length, get_or, drop, pos, Some, None, Option, sym, ap, ◌∙◌, subst, ap₂, add-one, arith}
+use Rattle.std.proofs.lemmas.List.{get_or_default}
 use Rattle.span.specs.declared.shape.Span.{Span}
 use Rattle.span.specs.declared.shape.Reach.{Reach}
 use Rattle.arithmetic.specs.Reaches.{difference, quotient, within}
@@ -7,27 +8,29 @@ use Rattle.span.specs.declared.region.Region.{Region}
 use Rattle.span.specs.Regions.{at}
 use Rattle.sheet.specs.declared.shape.Term.{Term as Written}
 use Rattle.sheet.specs.declared.shape.Row.{Row}
+use Rattle.sheet.specs.declared.shape.Bounds.TheVariants.{AtLeast}
+use Rattle.sheet.specs.declared.system.System.{System}
 use Rattle.enclosure.specs.declared.shape.Judgement.{Judgement}
-use Rattle.enclosure.specs.Rows.{Line, line, lines_from, term}
+use Rattle.enclosure.specs.Rows.{Line, lines, own_terms, row_terms}
 use Rattle.enclosure.specs.Judging.{judged_row}
 use Rattle.enclosure.specs.Plain.{plain_row}
 use Rattle.enclosure.proofs.Turns.{line_turn, lines_done}
 use Rattle.contractor.specs.Steps.{bind}
 use Rattle.narrowing.specs.Tests.{unless_broken, tested}
-use Rattle.narrowing.specs.Passes.{occurs, holding, others, target, replaced, aimed, narrowed_at, narrowed_from, passed}
+use Rattle.narrowing.specs.Passes.{occurs, holding, others, target, replaced, aimed, narrowed_at, line, narrowed_from, passed}
 
 pub skipped : (l : Line) (j : ℕ) (b : Region) → occurs j l.terms ≡ false → Some b ≡ narrowed_at l j b
 unfolding narrowed_at
 skipped l j b h = rw h
 
-module _ (l : Line) (j : ℕ) (b : Region) (h : occurs j l.terms ≡ true) where
-  pub no_target : None ≡ target l.bounds (plain_row b l.terms) → None ≡ narrowed_at l j b
+module _ (l : Line) (j : ℕ) (b : Region) (h : occurs j l.terms ≡ true) (whole : Reach) (w : whole ≡ plain_row b l.terms) where
+  pub no_target : None ≡ target l.bounds whole → None ≡ narrowed_at l j b
   unfolding narrowed_at
-  no_target e = rw h (ap (aimed b l.terms j) e)
+  no_target e = rw h (ap (aimed b l.terms j) (e ∙ ap (target l.bounds) w))
 
-  pub aimed_at : (t a r m x : Reach) (s : Span) → Some t ≡ target l.bounds (plain_row b l.terms) → a ≡ plain_row b (holding j l.terms) → r ≡ plain_row b (others j l.terms) → m ≡ difference t r → x ≡ quotient m a → s ≡ at b j → replaced b j (within s x) ≡ narrowed_at l j b
+  pub aimed_at : (t a r m x : Reach) (s : Span) → Some t ≡ target l.bounds whole → a ≡ plain_row b (holding j l.terms) → r ≡ plain_row b (others j l.terms) → m ≡ difference t r → x ≡ quotient m a → s ≡ at b j → replaced b j (within s x) ≡ narrowed_at l j b
   unfolding narrowed_at
-  aimed_at t a r m x s e ea er em ex es = rw h (rw (es, ex, em, ea, er) (ap (aimed b l.terms j) e))
+  aimed_at t a r m x s e ea er em ex es = rw h (rw (es, ex, em, ea, er) (ap (aimed b l.terms j) (e ∙ ap (target l.bounds) w)))
 
 -- ---- the loops
 module _ (l : Line) (n j : ℕ) (b : Region) (f : Region → Option Region) where
@@ -43,24 +46,34 @@ module _ (l : Line) (n j : ℕ) (b : Region) (f : Region → Option Region) wher
   unfolding narrowed_from
   variables_done h = let k : n - j ≡ 0 = omega arith in rw k
 
--- row r stands at i, and its terms first in what is left
-module _ (n : ℕ) (rows : List Row) (i : ℕ) (rest : List Written) (b : Region) where
-  module _ (r : Row) (own more : List Written) (er : r ≡ get_or rows i r) (h : i < length rows) (eo : own ≡ take r.own rest) (em : more ≡ drop r.own rest) where
-    turn : (F : List Line → Option Region) → F (line n r.bounds own ∷ lines_from n (drop (i + 1) rows) more) ≡ F (lines_from n (drop i rows) rest)
-    turn F = rw (eo, em) (sym (line_turn F n rows i r rest er h))
+-- what is read past the end of a list of rows
+abbrev blank : Row
+blank = record { bounds = AtLeast (pos 0); own = 0 }
 
-    pub row_turn : bind (narrowed_from (line n r.bounds own) n 0 b) (passed n (lines_from n (drop (i + 1) rows) more)) ≡ passed n (lines_from n (drop i rows) rest) b
-    unfolding passed
-    row_turn = turn (λ (ls : List Line). passed n ls b)
+-- row i of a system
+abbrev pub line_at : System → ℕ → Line
+line_at s i = record { bounds = (get_or s.rows.now i blank).bounds; terms = row_terms s i }
 
-    pub test_turn : (whole : Reach) (j : Judgement) → whole ≡ plain_row b (map (term n) own) → j ≡ judged_row r.bounds whole → unless_broken j (tested (lines_from n (drop (i + 1) rows) more) b) ≡ tested (lines_from n (drop i rows) rest) b
-    unfolding tested
-    test_turn whole j ew ej = rw (ej, ew) (turn (λ (ls : List Line). tested ls b))
+pub line_is : (s : System) (n : ℕ) (rows : List Row) (i : ℕ) (d : Row) (ts : List Written) → n ≡ s.n → rows ≡ s.rows.now → i < length rows → ts ≡ own_terms s i → line n (get_or rows i d).bounds ts ≡ line_at s i
+line_is s n rows i d ts en er h et = (λ k. line (en k) (get_or rows i d).bounds (et k)) ∙ (λ k. line s.n (get_or_default rows i d blank h k).bounds (own_terms s i)) ∙ (λ k. line s.n (get_or (er k) i blank).bounds (own_terms s i))
 
-  pub rows_done : length rows ≤ i → passed n (lines_from n (drop i rows) rest) b ≡ Some b
+module _ (s : System) (rows : List Row) (er : rows ≡ s.rows.now) (i : ℕ) (b : Region) where
+  pub row_turn : i < length rows → bind (narrowed_from (line_at s i) s.n 0 b) (passed s.n (drop (i + 1) (lines s))) ≡ passed s.n (drop i (lines s)) b
   unfolding passed
-  rows_done h = lines_done (λ (ls : List Line). passed n ls b) n rows i rest h
+  row_turn h = sym (line_turn (λ (ls : List Line). passed s.n ls b) s i blank (subst (λ (l : List Row). i < length l) er h))
 
-  pub tested_done : length rows ≤ i → tested (lines_from n (drop i rows) rest) b ≡ Some b
+  pub rows_done : length rows ≤ i → passed s.n (drop i (lines s)) b ≡ Some b
+  unfolding passed
+  rows_done h = lines_done (λ (ls : List Line). passed s.n ls b) s i (subst (λ (l : List Row). length l ≤ i) er h)
+
+  -- ---- the row test
+  pub test_turn : (d : Row) (whole : Reach) (j : Judgement) → i < length rows → whole ≡ plain_row b (row_terms s i) → j ≡ judged_row (get_or rows i d).bounds whole
+      → unless_broken j (tested (drop (i + 1) (lines s)) b) ≡ tested (drop i (lines s)) b
   unfolding tested
-  tested_done h = lines_done (λ (ls : List Line). tested ls b) n rows i rest h
+  test_turn d whole j h ew ej =
+      ap (λ (k : Judgement). unless_broken k (tested (drop (i + 1) (lines s)) b)) (ej ∙ ap₂ judged_row (ap (λ (r : Row). r.bounds) (get_or_default rows i d blank h) ∙ ap (λ (l : List Row). (get_or l i blank).bounds) er) ew)
+      ∙ sym (line_turn (λ (ls : List Line). tested ls b) s i blank (subst (λ (l : List Row). i < length l) er h))
+
+  pub tested_done : length rows ≤ i → tested (drop i (lines s)) b ≡ Some b
+  unfolding tested
+  tested_done h = lines_done (λ (ls : List Line). tested ls b) s i (subst (λ (l : List Row). length l ≤ i) er h)

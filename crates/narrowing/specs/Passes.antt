@@ -1,5 +1,5 @@
 -- The Gauss-Seidel pass. The value of a row is A · xⱼ + R, with A the sum of the terms that hold variable j, one power of it taken off, and R the sum of the others.
-use Rattle.std.specs.Prelude.{ℕ, zero, suc, Bool, true, false, cond, ◌||◌, List, [], ◌∷◌, ℤ, ◌≤ℤ◌, Some, None, Option}
+use Rattle.std.specs.Prelude.{ℕ, zero, suc, Bool, true, false, cond, ◌||◌, List, [], ◌∷◌, map, ℤ, ◌≤ℤ◌, Some, None, Option}
 use Rattle.numbers.specs.Rows.{Term}
 use Rattle.span.specs.declared.shape.Span.{Span}
 use Rattle.span.specs.declared.shape.Reach.{Reach}
@@ -8,9 +8,10 @@ use Rattle.span.specs.Making.{at_most?}
 use Rattle.arithmetic.specs.Reaches.{stretch, difference, quotient, within}
 use Rattle.sheet.specs.declared.shape.Bounds.{Bounds}
 use Rattle.sheet.specs.declared.shape.Bounds.TheVariants.{AtLeast, AtMost, Between}
+use Rattle.sheet.specs.declared.shape.Term.{Term as Written}
 use Rattle.span.specs.declared.region.Region.{Region}
 use Rattle.span.specs.Regions.{at, with_span}
-use Rattle.enclosure.specs.Rows.{Line, lines}
+use Rattle.enclosure.specs.Rows.{Line, lines, term}
 use Rattle.enclosure.specs.Plain.{plain_row}
 use Rattle.contractor.specs.Laws.{Narrowing}
 use Rattle.contractor.specs.Steps.{bind}
@@ -82,6 +83,10 @@ aimed b ts j (Some t) = replaced b j (within (at b j) (solved b ts j t))
 -- a variable that does not occur in the row is left as it is
 unfoldable pub narrowed_at : Line → ℕ → Region → Option Region
 narrowed_at l j b = cond (occurs j l.terms) (aimed b l.terms j (target l.bounds (plain_row b l.terms))) (Some b)
+
+-- a row as it is written
+abbrev pub line : ℕ → Bounds → List Written → Line
+line n k ts = record { bounds = k; terms = map (term n) ts }
 
 -- ---- the pass
 -- k variables from j on

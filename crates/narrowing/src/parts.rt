@@ -5,7 +5,7 @@ ghost use Rattle.narrowing.specs.Passes.{occurs, holding, others, target, crossi
 
 use arithmetic::reach;
 use enclosure::enclosure::Enclosure;
-use enclosure::evaluate::{term, total};
+use enclosure::evaluate::term;
 use sheet::shape::{Bounds, Term};
 use span::region::Region;
 use span::shape::Reach;
@@ -84,18 +84,17 @@ fn spanning(a: i32, b: i32) -> Option<Reach>
     Some(reach::between(a as i64, b as i64))
 }
 
-// T: what the row asks for, with the end that is missing taken from the row's span over the box.
-pub(crate) fn aim(n: usize, bounds: Bounds, ts: &[Term], b: &Region) -> Option<Reach>
-    ensures { result ≡ target bounds (plain_row b.now (map (cut n) ts.now)) }
+// T: what the row asks for, with the end that is missing taken from the row's span.
+pub(crate) fn aim(bounds: Bounds, r: Reach) -> Option<Reach>
+    ensures { result ≡ target bounds r }
 {
-    let inside = [0; 8];
     match bounds {
         Bounds::Between(t) => Some(Reach::Closed(t)),
-        Bounds::AtLeast(lo) => match total::<Reach>(n, ts, b, &inside) {
+        Bounds::AtLeast(lo) => match r {
             Reach::Open => Some(Reach::Open),
             Reach::Closed(s) => spanning(lo, s.hi),
         },
-        Bounds::AtMost(hi) => match total::<Reach>(n, ts, b, &inside) {
+        Bounds::AtMost(hi) => match r {
             Reach::Open => Some(Reach::Open),
             Reach::Closed(s) => spanning(s.lo, hi),
         },

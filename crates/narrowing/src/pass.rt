@@ -1,15 +1,15 @@
 ghost use Rattle.std.specs.Prelude.{◌≡◌, ◌<◌, ◌≤◌};
-ghost use Rattle.enclosure.specs.Rows.{line};
-ghost use Rattle.narrowing.specs.Passes.{narrowed_at, pass};
+ghost use Rattle.narrowing.specs.Passes.{narrowed_at, line, pass};
 ghost use Rattle.narrowing.specs.PassLaws.{pass_laws};
 
 use crate::parts::{aim, holds, remainder, slope};
 use arithmetic::reach;
 use contractor::contractor::Contractor;
-use enclosure::evaluate::parted;
+use enclosure::evaluate::{own_terms, total};
 use sheet::shape::{Bounds, Term};
 use sheet::system::System;
 use span::region::Region;
+use span::shape::Reach;
 
 // One variable of one row: its span meets (T − R) / A.
 fn narrow_at(n: usize, bounds: Bounds, ts: &[Term], b: &Region, j: usize) -> Option<Region>
@@ -20,7 +20,9 @@ fn narrow_at(n: usize, bounds: Bounds, ts: &[Term], b: &Region, j: usize) -> Opt
     if !holds(n, ts, j) {
         return Some(*b);
     }
-    match aim(n, bounds, ts, b) {
+    let inside = [0; 8];
+    let whole = total::<Reach>(n, ts, b, &inside);
+    match aim(bounds, whole) {
         None => None,
         Some(t) => {
             let a = slope(n, ts, b, j);
@@ -46,18 +48,16 @@ impl Contractor for GaussSeidel {
     fn narrow(&self, system: &System, b: &Region) -> Option<Region> {
         let n = system.n();
         let rows = system.rows();
-        let mut rest = system.terms();
         let mut cur = *b;
         'pass: {
-            for row in rows {
-                let (own, more) = parted(row.own, rest);
+            for i in 0..rows.len() {
+                let own = own_terms(system, i);
                 for j in 0..n {
-                    match narrow_at(n, row.bounds, own, &cur, j) {
+                    match narrow_at(n, rows[i].bounds, own, &cur, j) {
                         None => break 'pass None,
                         Some(c) => cur = c,
                     }
                 }
-                rest = more;
             }
             Some(cur)
         }

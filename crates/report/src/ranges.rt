@@ -43,7 +43,7 @@ fn ends(heap: Global, s: Span) -> Result<String, AllocError>
 fn push_range(line: &mut Vec<u8>, v: &Variable, s: Span) -> Result<(), AllocError>
     ensures { OnOk result (line.new.items ≡ line.old.items ++ range_text v.now s) }
 {
-    let ends = ends(line.allocator(), s)?;
+    let ends = ends(*line.allocator(), s)?;
     push_text(line, " ")?;
     push_bytes(line, v.name.bytes())?;
     push_bytes(line, ends.as_bytes())?;

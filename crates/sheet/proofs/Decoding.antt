@@ -1,18 +1,17 @@
 -- What the decoded parts of a field hold, in the words of the format.
-use Rattle.std.proofs.Common.{◌≡◌, ℕ, zero, suc, ◌+◌, ◌-◌, ◌≤◌, Bool, true, false, cond, List, [], ◌∷◌, ◌++◌, length, take, drop, replicate, ℤ, ◌≤ℤ◌, ◌<ℤ◌, Some, None, Option, sym, refl, ap, ◌∙◌, subst, arith, length-append, w32, SFits, to_z, of_z}
+use Rattle.std.proofs.Common.{◌≡◌, ℕ, zero, suc, ◌+◌, ◌-◌, Bool, true, false, cond, List, [], ◌∷◌, ◌++◌, length, take, replicate, ℤ, ◌≤ℤ◌, ◌<ℤ◌, Some, None, sym, refl, ap, ◌∙◌, subst, arith, w32, SFits, to_z, of_z}
 use borrow.Author.Differences.{ints}
 use Rattle.std.proofs.lemmas.List.{take_at}
 use Rattle.numbers.specs.Rows.{degree}
 use Rattle.format.specs.Content.{GivenVariable}
-use Rattle.format.specs.Reading.{are_letters, good_variable, variable_in}
+use Rattle.format.specs.Reading.{are_letters, good_variable}
 use Rattle.std.proofs.lemmas.Bool.{both_ways}
 use Rattle.span.specs.declared.shape.Span.{Span}
 use Rattle.span.specs.Making.{Count, made}
 use Rattle.span.proofs.Alike.{made_is}
 use Rattle.std.proofs.lemmas.Int.{to_z-of_z}
 use Rattle.format.proofs.Decide.{Told, decides_letters, decides_variable, false_from}
-use Rattle.sheet.specs.declared.variable.Variable.{Variable}
-use Rattle.sheet.specs.Held.{variable_is, widened}
+use Rattle.sheet.specs.Held.{widened}
 
 degree_zeros : (k : ℕ) → degree (replicate k 0) ≡ 0
 degree_zeros zero = refl

@@ -1,6 +1,6 @@
 -- One more variable, row or term is held.
-use Rattle.std.proofs.Common.{◌≡◌, ℕ, zero, suc, ◌+◌, ◌-◌, ◌*◌, ◌<◌, ◌≤◌, Bool, true, false, cond, leb, List, [], ◌∷◌, ◌++◌, map, length, get_or, take, set, sym, refl, ap, ◌∙◌, subst, arith, length-append, length-set}
-use Rattle.std.specs.List.{AllByRecursion as All, flat_map}
+use Rattle.std.proofs.Common.{◌≡◌, ℕ, zero, suc, ◌+◌, ◌-◌, ◌*◌, ◌<◌, ◌≤◌, List, [], ◌∷◌, ◌++◌, map, length, get_or, take, set, sym, refl, ap, ◌∙◌, arith, length-append, length-set}
+use Rattle.std.specs.List.{AllByRecursion as All}
 use Rattle.std.proofs.lemmas.List.{take_more_set, map-append, flat_map_more, append-nil, length-map, set_at, get_or_at, get_or-take, append_assoc, length-take-le}
 use Rattle.std.proofs.ByRecursion.{All-push}
 use Rattle.sheet.specs.declared.shape.Row.{Row}
@@ -10,7 +10,7 @@ use Rattle.sheet.specs.declared.gather.Gathered.{Gathered}
 use Rattle.numbers.specs.Rows.{Term as GivenTerm}
 use Rattle.format.specs.Content.{GivenVariable, GivenRow, Limits, term_total}
 use Rattle.format.specs.Reading.{closed}
-use Rattle.sheet.specs.Held.{variable_is, bounds_is, term_is, padded}
+use Rattle.sheet.specs.Held.{variable_is, term_is, padded}
 use Rattle.sheet.specs.Gathering.{Held, HeldOpen, Head, row_is, head_of, row_terms, heads_of, terms_of}
 
 pub total_push : (rs : List GivenRow) (r : GivenRow) → term_total (rs ++ r ∷ []) ≡ term_total rs + length r.terms

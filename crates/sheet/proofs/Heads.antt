@@ -1,10 +1,9 @@
 -- The field reader by what the code reads: the first three bytes, and the rest.
-use Rattle.std.proofs.Common.{◌≡◌, ℕ, zero, suc, ◌+◌, ◌-◌, ◌*◌, ◌<◌, ◌≤◌, List, [], ◌∷◌, ◌++◌, length, get_or, take, drop, Ok, Err, Result, sym, refl, ap, ◌∙◌, arith}
+use Rattle.std.proofs.Common.{◌≡◌, ℕ, suc, ◌+◌, ◌-◌, ◌*◌, ◌≤◌, List, [], ◌∷◌, length, get_or, take, drop, Ok, sym, ap, arith}
 use Rattle.std.proofs.lemmas.Bool.{le-leb}
 use Rattle.std.proofs.lemmas.List.{take_all}
-use Rattle.format.specs.declared.fault.FieldFault.{FieldFault}
 use Rattle.format.specs.Written.{an_end}
-use Rattle.format.specs.Fields.{Cut, kind_of, kinded, cut, read_field}
+use Rattle.format.specs.Fields.{kind_of, kinded, cut, read_field}
 
 pub end_sorted : (n p t : ℕ) (xs rest : List ℕ) → t ≡ 9 → length xs ≡ 0 → Ok (record { kind = an_end; content = []; rest = rest }) ≡ kinded n p xs rest (kind_of t)
 end_sorted n p t [] rest e l = rw e

@@ -1,17 +1,17 @@
 -- What the code leaves when it takes a field is what the step goes on to.
-use Rattle.std.proofs.Common.{◌≡◌, ℕ, ◌+◌, ◌-◌, ◌<◌, ◌≤◌, Bool, true, false, cond, leb, List, [], ◌∷◌, ◌++◌, map, length, take, set, Some, None, Ok, Err, Option, sym, refl, ap, ◌∙◌, subst, arith, length-append}
+use Rattle.std.proofs.Common.{◌≡◌, ℕ, ◌+◌, ◌-◌, ◌<◌, true, false, cond, List, [], ◌∷◌, ◌++◌, map, length, take, set, Some, None, Ok, Err, Option, sym, refl, ap, ◌∙◌, subst, arith, length-append}
 use Rattle.std.proofs.lemmas.Bool.{lt-leb}
 use Rattle.numbers.specs.Rows.{Term as GivenTerm}
 use Rattle.format.specs.declared.fault.SheetFault.TheVariants.{OutOfRange, NameTaken}
 use Rattle.format.specs.Content.{GivenVariable, GivenRow, Limits}
-use Rattle.format.specs.Reading.{Step, goes_on, stops, variables, row, terms, closed, good_variable, good_term, good_limits, taken, add_variable, kept_limits, add_row, add_term}
+use Rattle.format.specs.Reading.{Step, goes_on, stops, variables, row, terms, good_variable, good_term, good_limits, taken, add_variable, kept_limits, add_row, add_term}
 use Rattle.sheet.specs.declared.shape.Bounds.{Bounds}
 use Rattle.sheet.specs.declared.shape.Row.{Row}
 use Rattle.sheet.specs.declared.shape.Term.{Term}
 use Rattle.sheet.specs.declared.variable.Variable.{Variable}
 use Rattle.sheet.specs.declared.gather.Gathered.{Gathered}
 use Rattle.sheet.specs.declared.gather.State.TheVariants.{Variables, Row as AtRow, Terms}
-use Rattle.sheet.specs.Held.{told, readable, name_is, variable_is, bounds_is, term_is, padded}
+use Rattle.sheet.specs.Held.{readable, name_is, variable_is, bounds_is, term_is, padded}
 use Rattle.sheet.specs.Gathering.{Held, HeldOpen, Goes, row_is, head_of}
 use Rattle.sheet.proofs.Decoding.{cond_none, cond_some}
 use Rattle.sheet.proofs.Filled.{held_variable, held_row, held_term}

@@ -1,12 +1,12 @@
 -- What the code takes by the field's case is the step, whatever the draft is.
-use Rattle.std.proofs.Common.{◌≡◌, ℕ, List, [], ◌∷◌, Some, None, Ok, Err, Option, Result, sym, refl, ap, ◌∙◌, subst, arith, MutBor}
+use Rattle.std.proofs.Common.{◌≡◌, ℕ, List, [], Some, None, Ok, Err, Result, sym, refl, ap, ◌∙◌, subst, Bor}
 use Rattle.format.specs.declared.fault.SheetFault.{SheetFault}
 use Rattle.format.specs.Content.{Limits}
 use Rattle.sheet.specs.declared.field.Field.{Field}
 use Rattle.sheet.specs.declared.field.Field.TheVariants.{Variable, Term}
 use Rattle.sheet.specs.declared.gather.Gathered.{Gathered}
 use Rattle.sheet.specs.declared.gather.Progress.{Progress}
-use Rattle.sheet.specs.declared.gather.Progress.TheVariants.{More, Done}
+use Rattle.sheet.specs.declared.gather.Progress.TheVariants.{More}
 use Rattle.sheet.specs.declared.gather.State.{State}
 use Rattle.numbers.specs.Rows.{Term as GivenTerm}
 use Rattle.format.specs.Content.{GivenVariable, GivenRow}
@@ -46,7 +46,7 @@ term_any R g (row vs t rs k) p xs s h e f = subst (λ (u : ℕ). R (add_term vs 
 term_any R g (terms vs t rs k ts) p xs s h e f = subst (λ (u : ℕ). R (add_term vs u rs k ts p (term_in xs))) h.2 (f vs rs k ts h.1)
 
 -- r: what the code answers when taking the field answers q
-pub takes_variable : (r : Result Progress SheetFault) (q : Result (Unit {0}) SheetFault) (g h : Gathered) (p : ℕ) (x : Field) (b : MutBor (List ℕ)) (s : State) → x ≡ Variable b → Some s ≡ follows g.state (kind_is x)
+pub takes_variable : (r : Result Progress SheetFault) (q : Result (Unit {0}) SheetFault) (g h : Gathered) (p : ℕ) (x : Field) (b : Bor (List ℕ)) (s : State) → x ≡ Variable b → Some s ≡ follows g.state (kind_is x)
     → ((t : Step) → Goes q h t → Takes r h t)
     → ((vs : List GivenVariable) → Held g vs [] → Goes q h (add_variable vs p (variable_in b.now)))
     → (d : Draft) → Holds g d → Takes r h (step d p (kind_is x) (content_is x))
@@ -54,7 +54,7 @@ takes_variable r q g h p x b s e n c f d i =
     subst (λ (y : Field). Takes r h (step d p (kind_is y) (content_is y))) (sym e)
     (variable_any (λ t. Takes r h t) g d p b.now s i (n ∙ ap (λ (y : Field). follows g.state (kind_is y)) e) (λ vs held. c (add_variable vs p (variable_in b.now)) (f vs held)))
 
-pub takes_term : (r : Result Progress SheetFault) (q : Result (Unit {0}) SheetFault) (g h : Gathered) (p : ℕ) (x : Field) (b : MutBor (List ℕ)) (s : State) → x ≡ Term b → Some s ≡ follows g.state (kind_is x)
+pub takes_term : (r : Result Progress SheetFault) (q : Result (Unit {0}) SheetFault) (g h : Gathered) (p : ℕ) (x : Field) (b : Bor (List ℕ)) (s : State) → x ≡ Term b → Some s ≡ follows g.state (kind_is x)
     → ((t : Step) → Goes q h t → Takes r h t)
     → ((vs : List GivenVariable) (rs : List GivenRow) (k : Limits) (ts : List GivenTerm) → HeldOpen g vs rs k ts → Goes q h (add_term vs g.tolerance rs k ts p (term_in b.now)))
     → (d : Draft) → Holds g d → Takes r h (step d p (kind_is x) (content_is x))

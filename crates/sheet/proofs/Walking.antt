@@ -1,5 +1,5 @@
 -- One turn of the walk over the fields.
-use Rattle.std.proofs.Common.{◌≡◌, ℕ, zero, suc, ◌+◌, ◌-◌, ◌<◌, ◌≤◌, List, [], ◌∷◌, length, Ok, Err, Result, sym, refl, ap, ◌∙◌, subst, arith}
+use Rattle.std.proofs.Common.{◌≡◌, ℕ, ◌+◌, ◌-◌, ◌<◌, ◌≤◌, List, [], ◌∷◌, length, Ok, Err, Result, sym, refl, ap, ◌∙◌, subst, arith}
 use Rattle.format.specs.declared.fault.FieldFault.{FieldFault}
 use Rattle.format.specs.declared.fault.SheetFault.{SheetFault}
 use Rattle.format.specs.declared.fault.SheetFault.TheVariants.{Field, Trailing}
@@ -8,9 +8,9 @@ use Rattle.sheet.specs.declared.gather.Progress.{Progress}
 use Rattle.sheet.specs.declared.gather.Progress.TheVariants.{More, Done}
 use Rattle.format.specs.Content.{Content}
 use Rattle.format.specs.Written.{FieldKind}
-use Rattle.format.specs.Fields.{Cut, right_length, read_field}
-use Rattle.format.specs.Reading.{Draft, start, variables, tolerance, row, terms, variable_count, Step, goes_on, ends, stops, step, ended, after_step, after_field, whole, read_content}
-use Rattle.sheet.specs.Gathering.{Held, Holds, Takes, Drafted}
+use Rattle.format.specs.Fields.{Cut, read_field}
+use Rattle.format.specs.Reading.{Draft, start, variables, tolerance, row, terms, variable_count, Step, goes_on, ends, stops, step, ended, after_step, after_field, whole}
+use Rattle.sheet.specs.Gathering.{Holds, Takes}
 use Rattle.sheet.specs.Walk.{ContentSays, Leads}
 use Rattle.format.proofs.Cuts.{whole_is, length_cut}
 

@@ -1,9 +1,8 @@
 -- What the code has gathered, and the draft that it stands for.
-use Rattle.std.specs.Prelude.{◌≡◌, ℕ, ◌≤◌, List, [], ◌∷◌, ◌++◌, map, length, take, Some, None, Ok, Err, Option, Result}
+use Rattle.std.specs.Prelude.{◌≡◌, ℕ, ◌≤◌, List, [], map, length, take, Some, None, Ok, Err, Option, Result}
 use Rattle.std.specs.List.{AllByRecursion as All, flat_map}
 use Rattle.format.specs.declared.fault.SheetFault.{SheetFault}
 use Rattle.sheet.specs.declared.shape.Row.{Row}
-use Rattle.sheet.specs.declared.shape.Term.{Term}
 use Rattle.sheet.specs.declared.gather.Gathered.{Gathered}
 use Rattle.sheet.specs.declared.gather.Progress.{Progress}
 use Rattle.sheet.specs.declared.gather.Progress.TheVariants.{More, Done}

@@ -1,4 +1,4 @@
-use Rattle.std.proofs.Common.{ℕ, ◌+◌, ◌-◌, List, take, drop, sym, ap, ◌∙◌, arith}
+use Rattle.std.proofs.Common.{◌+◌, ◌-◌, List, drop, sym, ap, ◌∙◌, arith}
 use Rattle.sheet.specs.declared.shape.Term.{Term}
 use Rattle.enclosure.specs.Rows.{own}
 use Rattle.enclosure.proofs.Turns.{own_there, own_further, own_none}

@@ -1,4 +1,4 @@
-use Rattle.std.proofs.Common.{◌≡◌, sym, ◌∙◌, arith}
+use Rattle.std.proofs.Common.{sym, ◌∙◌, arith}
 use Rattle.sheet.proofs.Loops.{letters_no, letters_yes, letters_end}
 use Rattle.sheet.proofs.decode.letters.Goals as goal
 

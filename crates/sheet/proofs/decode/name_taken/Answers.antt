@@ -1,4 +1,4 @@
-use Rattle.std.proofs.Common.{◌≡◌, sym, ◌∙◌, arith}
+use Rattle.std.proofs.Common.{sym, ◌∙◌, arith}
 use Rattle.sheet.specs.Held.{variable_is}
 use Rattle.sheet.proofs.Loops.{taken_yes, taken_no, taken_end}
 use Rattle.sheet.proofs.decode.name_taken.Goals as goal

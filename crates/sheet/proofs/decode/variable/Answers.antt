@@ -1,4 +1,4 @@
-use Rattle.std.proofs.Common.{◌≡◌, drop, ◌≤ℤ◌, ◌<ℤ◌, ap, ◌∙◌, arith, w32, SFits, to_z, of_z, rules}
+use Rattle.std.proofs.Common.{◌≡◌, ap, ◌∙◌, arith, w32, SFits, rules}
 use borrow.Author.Differences.{ints}
 use Rattle.std.proofs.lemmas.Int.{to_z-of_z}
 use Rattle.format.specs.Content.{GivenVariable}
@@ -18,12 +18,12 @@ returns-then-nominal-span c =
       | then-nominal-span-via-else-nominal-span+then-span-nominal w ↦ nominal_above g c.in-Some.span c.count-nominal.result e.0 e.1 n (omega (arith, ints, w.if-span-nominal.true))
     ])
 
-pub returns-in-default-name : goal.returns-in-default-name
-returns-in-default-name c =
+pub returns-in_default-name : goal.returns-in_default-name
+returns-in_default-name c =
     let g : GivenVariable = variable_in c.args.bytes.now in
     let e = ends_made c.in-Some.span c.count.result c.count-2.result g.lo g.hi (search rules) (search rules) c.in-Some.ensures c.count.ensures (c.count-2.ensures ∙ ap count_in c.after-2.ensures) in
     let n : c.count-nominal.result ≡ g.nominal = c.count-nominal.ensures ∙ ap count_in c.after.ensures in
-    variable_out g (name_missing g c.in-Some.span c.count-nominal.result e.0 e.1 n (rw c.after-3.ensures at c.in-default-name.ensures))
+    variable_out g (name_missing g c.in-Some.span c.count-nominal.result e.0 e.1 n (rw c.after-3.ensures at c.in_default-name.ensures))
 
 pub returns : goal.returns
 returns c =

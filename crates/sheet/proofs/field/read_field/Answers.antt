@@ -1,4 +1,4 @@
-use Rattle.std.proofs.Common.{◌≡◌, get_or, sym, refl, ◌∙◌, rules}
+use Rattle.std.proofs.Common.{get_or, sym, refl, ◌∙◌, rules}
 use Rattle.sheet.proofs.Heads.{heads, cut_is}
 use Rattle.sheet.proofs.field.read_field.Goals as goal
 

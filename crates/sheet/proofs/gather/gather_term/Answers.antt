@@ -9,8 +9,8 @@ use Rattle.sheet.proofs.gather.gather_term.Goals as goal
 terms_below : (g : Gathered) → Open g → g.own < 12 → g.termcount < 192
 terms_below g o h = few_terms g g o.vs o.rs o.k o.ts o.held h
 
-pub offset-bounds-g-g : goal.offset-bounds-g-g
-offset-bounds-g-g c = let h = terms_below c.args.g.now c.requires.1.1.0 c.if-g-ge12.false in search rules
+pub offset_bounds-g-g : goal.offset_bounds-g-g
+offset_bounds-g-g c = let h = terms_below c.args.g.now c.requires.1.1.0 c.if-g-ge12.false in search rules
 
 pub bounds-g-g : goal.bounds-g-g
 bounds-g-g c = terms_below c.args.g.now c.requires.1.1.0 c.if-g-ge12.false
@@ -18,14 +18,14 @@ bounds-g-g c = terms_below c.args.g.now c.requires.1.1.0 c.if-g-ge12.false
 pub listed : goal.listed
 listed c = let o : Open c.args.g.now = c.requires.1.1.0 in let h = terms_below c.args.g.now o c.if-g-ge12.false in let l = o.held.held.term_places in omega arith
 
-pub overflow-add-g : goal.overflow-add-g
-overflow-add-g c = let h = terms_below c.args.g.now c.requires.1.1.0 c.if-g-ge12.false in search rules
+pub overflow_add-g : goal.overflow_add-g
+overflow_add-g c = let h = terms_below c.args.g.now c.requires.1.1.0 c.if-g-ge12.false in search rules
 
-pub overflow-sub-last : goal.overflow-sub-last
-overflow-sub-last c = let o : Open c.args.g.now = c.requires.1.1.0 in some_row c.args.g.now c.args.g.now o.vs o.rs o.k o.ts o.held
+pub overflow_sub-last : goal.overflow_sub-last
+overflow_sub-last c = let o : Open c.args.g.now = c.requires.1.1.0 in some_row c.args.g.now c.args.g.now o.vs o.rs o.k o.ts o.held
 
-pub returns-in-default : goal.returns-in-default
-returns-in-default c = λ vs rs k ts o. term_stops c.args.g.now c.args.g.now vs rs k ts o c.args.place (term_in c.args.bytes.now) c.if-g-ge12.false c.in-default.ensures
+pub returns-in_default : goal.returns-in_default
+returns-in_default c = λ vs rs k ts o. term_stops c.args.g.now c.args.g.now vs rs k ts o c.args.place (term_in c.args.bytes.now) c.if-g-ge12.false c.in_default.ensures
 
 pub returns : goal.returns
 returns c = λ vs rs k ts o.

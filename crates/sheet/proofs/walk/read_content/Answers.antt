@@ -32,8 +32,8 @@ fields-preserved c =
           (placed_at (Ok More) c.fields.gathered c.take_field.new.g _ _ _ _ c.in_ok-field.ensures.placed (λ d i. as_progress c.in_ok-take_field.field-0 More c.in-More.is c.take_field.new.g _ (c.in_ok-take_field.ensures d i))),
     )
 
-pub overflow-sub-result : goal.overflow-sub-result
-overflow-sub-result c =
+pub overflow_sub-result : goal.overflow_sub-result
+overflow_sub-result c =
     let s = shorter_next c.fields.gathered c.take_field.new.g (length c.args.bytes.now) c.fields.rest.now _ c.fields.invariant.1 c.fields.invariant.0 _ c.in_ok-field.ensures.cut in
     omega arith
 

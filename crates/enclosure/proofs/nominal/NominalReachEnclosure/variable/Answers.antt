@@ -17,7 +17,7 @@ invariant_of-result c =
     let q : c.max-m.result ≡ int_max s.lo c.args.inside = simp to_z-of_z at c.max-m.ensures.value in
     let p : c.min.result ≡ int_min s.hi c.max-m.result = simp to_z-of_z at c.min.ensures.value in
     let e : c.min.result ≡ brought s c.args.inside = p ∙ ap (int_min s.hi) q in
-    simp to_z-of_z (rw e (brought_above s c.args.inside, (brought_under s c.args.inside, tt)))
+    simp to_z-of_z (rw e (record { above = brought_above s c.args.inside; under = brought_under s c.args.inside }))
 
 pub returns : goal.returns
 returns c =

@@ -1,4 +1,4 @@
-use Rattle.std.proofs.Common.{◌≡◌, ℕ, ◌≤◌, length, take, Ok, Err, sym, refl, ap, ◌∙◌, subst, inl, inr, arith, rules}
+use Rattle.std.proofs.Common.{◌≡◌, ◌≤◌, length, Ok, Err, sym, refl, ap, ◌∙◌, subst, inl, inr, arith, rules}
 use Rattle.std.proofs.lemmas.Result.{err_from_is_err_and}
 use Rattle.format.specs.declared.fault.SheetFault.TheVariants.{TooLong, NoRoom}
 use Rattle.sheet.specs.declared.sheet.Sheet.{Sheet}
@@ -11,7 +11,7 @@ use Rattle.sheet.proofs.sheet.Sheet.read.Goals as goal
 use Rattle.sheet.proofs.sheet.Sheet.read.Goals.{then-gathered-places-via-then-gathered-places, then-gathered-places-via-else-gathered-places+then-gathered-places-2}
 
 pub returns-then-bytes-gt4096 : goal.returns-then-bytes-gt4096
-returns-then-bytes-gt4096 c = let h : SheetSays c.args.self.now c.args.self.now (read_sheet c.args.bytes.now (room c.args.self.now.rows) (room c.args.self.now.terms)) (Err TooLong) = says_long c.args.self.now c.args.bytes.now (room c.args.self.now.rows) (room c.args.self.now.terms) c.if-bytes-gt4096.true in record { says = h; exact = means c.args.self.now c.args.self.now c.args.bytes.now _ (all_bytes c.args.bytes.now c.type-inv.bytes) h }
+returns-then-bytes-gt4096 c = let h : SheetSays c.args.self.now c.args.self.now (read_sheet c.args.bytes.now (room c.args.self.now.rows) (room c.args.self.now.terms)) (Err TooLong) = says_long c.args.self.now c.args.bytes.now (room c.args.self.now.rows) (room c.args.self.now.terms) c.if-bytes-gt4096.true in record { says = h; exact = means c.args.self.now c.args.self.now c.args.bytes.now _ (all_bytes c.args.bytes.now c.type_inv.bytes) h }
 
 pub returns-in_err-gathered : goal.returns-in_err-gathered
 returns-in_err-gathered c =
@@ -19,7 +19,7 @@ returns-in_err-gathered c =
     let q : c.from_residual.result ≡ Err c.in_err-gathered.field-0.0 = p.1 ∙ ap Err p.2 in
     let h = subst (λ r. SheetSays c.args.self.now c.args.self.now (read_sheet c.args.bytes.now (room c.args.self.now.rows) (room c.args.self.now.terms)) r) (sym q)
     (says_refused c.args.self.now c.args.bytes.now (room c.args.self.now.rows) (room c.args.self.now.terms) c.in_err-gathered.field-0.0 c.if-bytes-gt4096.false c.in_err-gathered.ensures) in
-    record { says = h; exact = means c.args.self.now c.args.self.now c.args.bytes.now c.from_residual.result (all_bytes c.args.bytes.now c.type-inv.bytes) h }
+    record { says = h; exact = means c.args.self.now c.args.self.now c.args.bytes.now c.from_residual.result (all_bytes c.args.bytes.now c.type_inv.bytes) h }
 
 pub returns-then-gathered-places : goal.returns-then-gathered-places
 returns-then-gathered-places c =
@@ -28,13 +28,13 @@ returns-then-gathered-places c =
       | then-gathered-places-via-then-gathered-places w ↦ inl (let e = c.places.ensures in let f = w.if-gathered-places.true in omega arith)
       | then-gathered-places-via-else-gathered-places+then-gathered-places-2 w ↦ inr (let e = w.places-else-gathered-places.ensures in let f = w.if-gathered-places-2.true in omega arith)
     ]) in
-    record { says = h; exact = means c.args.self.now c.args.self.now c.args.bytes.now (Err (NoRoom (length c.args.bytes.now))) (all_bytes c.args.bytes.now c.type-inv.bytes) h }
+    record { says = h; exact = means c.args.self.now c.args.self.now c.args.bytes.now (Err (NoRoom (length c.args.bytes.now))) (all_bytes c.args.bytes.now c.type_inv.bytes) h }
 
 pub invariant_of-self : goal.invariant_of-self
-invariant_of-self c = let f = found_few c.in_ok-gathered.gathered (read_content c.args.bytes.now) c.in_ok-gathered.ensures in (f.4, (f.5, tt))
+invariant_of-self c = let f = found_few c.in_ok-gathered.gathered (read_content c.args.bytes.now) c.in_ok-gathered.ensures in record { few = f.4; whole = f.5 }
 
-pub slice-bounds-replace-end-2 : goal.slice-bounds-replace-end-2
-slice-bounds-replace-end-2 c = let f = found_few c.in_ok-gathered.gathered (read_content c.args.bytes.now) c.in_ok-gathered.ensures in let g = f.1 in let h = f.3 in search rules
+pub slice_bounds-replace-end-2 : goal.slice_bounds-replace-end-2
+slice_bounds-replace-end-2 c = let f = found_few c.in_ok-gathered.gathered (read_content c.args.bytes.now) c.in_ok-gathered.ensures in let g = f.1 in let h = f.3 in search rules
 
 left : (c : goal.After-replace-2) (u : Sheet) → u.heading.n ≡ c.in_ok-gathered.gathered.n → u.heading.variables ≡ c.in_ok-gathered.gathered.variables → u.heading.tolerance ≡ c.in_ok-gathered.gathered.tolerance
     → u.rows ≡ c.replace.new.self → u.terms ≡ c.replace-2.new.self → SheetSays c.args.self.now u (read_sheet c.args.bytes.now (room c.args.self.now.rows) (room c.args.self.now.terms)) (Ok tt)
@@ -52,5 +52,5 @@ left c u n-is variables-is tolerance-is rows_are terms-are =
 pub returns : goal.returns
 returns c = record {
   says = left c _ refl refl refl refl refl;
-  exact = means c.args.self.now _ c.args.bytes.now (Ok tt) (all_bytes c.args.bytes.now c.type-inv.bytes) (left c _ refl refl refl refl refl);
+  exact = means c.args.self.now _ c.args.bytes.now (Ok tt) (all_bytes c.args.bytes.now c.type_inv.bytes) (left c _ refl refl refl refl refl);
 }

@@ -1,6 +1,5 @@
-use Rattle.std.proofs.Common.{◌≡◌, ℕ, ◌-◌, List, map, length, take, sym, ap, ◌∙◌, arith}
+use Rattle.std.proofs.Common.{◌≡◌, ◌-◌, map, length, take, sym, ap, ◌∙◌, arith}
 use Rattle.std.proofs.lemmas.List.{length-map, length-take-le}
-use Rattle.span.specs.declared.shape.Span.{Span}
 use Rattle.span.specs.Regions.{nought, boxed}
 use Rattle.sheet.specs.Sheets.{span_of, variables_of}
 use Rattle.sheet.proofs.Loops.{filled_front}
