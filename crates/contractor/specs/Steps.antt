@@ -1,5 +1,5 @@
 -- Steps that narrow a box, one after another.
-use Rattle.std.specs.Prelude.{◌≡◌, ℕ, ◌≤ℤ◌, IfSome, Some, None, Option, MatchOption, refl}
+use Rattle.std.specs.Prelude.{◌≡◌, ℕ, IfSome, Some, None, Option, MatchOption, refl}
 use Rattle.std.proofs.Common.{arith, ◌∙◌}
 use Rattle.std.specs.Int.Signed.{≤ℤ_refl}
 use Rattle.std.proofs.lemmas.Int.{ints}

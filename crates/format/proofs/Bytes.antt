@@ -3,7 +3,7 @@ use Rattle.std.proofs.Common.{◌≡◌, ℕ, ◌+◌, ◌*◌, ◌/◌, ◌%◌
 use native.Mathlib.Nat.{div-div-eq-div-mul}
 use borrow.Author.Differences.{ints}
 use Rattle.std.proofs.lemmas.Int.{to_z-of_z, of_z-to_z}
-use Rattle.std.specs.List.{AllByRecursion as All}
+use Rattle.std.specs.List.{AllByRecursion}
 use Rattle.span.specs.Making.{Count}
 use Rattle.format.specs.Theorem.{Byte}
 use Rattle.format.specs.Written.{four, count_bytes}
@@ -28,7 +28,7 @@ number_four v rest h =
     let s : v / 16777216 % 256 ≡ v / 16777216 = small (v / 16777216) (omega arith) in
     rw s (rejoined v (v / 256) (v / 65536) (v / 16777216) (v % 256) (v / 256 % 256) (v / 65536 % 256) e f g)
 
-pub four_bytes : (v : ℕ) → All Byte (four v)
+pub four_bytes : (v : ℕ) → AllByRecursion Byte (four v)
 four_bytes v = (omega arith, (omega arith, (omega arith, (omega arith, tt))))
 
 count_fits : (z : ℤ) → Count z → SFits w32 z
@@ -55,14 +55,14 @@ pub number_below : (a b c d : ℕ) (rest : List ℕ) → Byte a → Byte b → B
 number_below a b c d rest p q r s = omega arith
 
 -- the first four bytes are those of the number, or of the count, in them
-pub four_of : (xs : List ℕ) → All Byte xs → 4 ≤ length xs → xs ≡ four (number_in xs) ++ drop 4 xs
+pub four_of : (xs : List ℕ) → AllByRecursion Byte xs → 4 ≤ length xs → xs ≡ four (number_in xs) ++ drop 4 xs
 four_of [] h l = absurd (omega arith)
 four_of (a ∷ []) h l = absurd (omega arith)
 four_of (a ∷ b ∷ []) h l = absurd (omega arith)
 four_of (a ∷ b ∷ c ∷ []) h l = absurd (omega arith)
 four_of (a ∷ b ∷ c ∷ d ∷ xs) h l = ap (λ (ys : List ℕ). ys ++ xs) (sym (four_number a b c d xs h.0 h.1.0 h.1.1.0 h.1.1.1.0))
 
-pub count_of : (xs : List ℕ) → All Byte xs → 4 ≤ length xs → xs ≡ count_bytes (count_in xs) ++ drop 4 xs
+pub count_of : (xs : List ℕ) → AllByRecursion Byte xs → 4 ≤ length xs → xs ≡ count_bytes (count_in xs) ++ drop 4 xs
 count_of [] h l = absurd (omega arith)
 count_of (a ∷ []) h l = absurd (omega arith)
 count_of (a ∷ b ∷ []) h l = absurd (omega arith)

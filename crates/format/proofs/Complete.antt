@@ -1,6 +1,6 @@
 -- What is well formed is accepted as it is written.
 use Rattle.std.proofs.Common.{◌≡◌, ℕ, ◌+◌, ◌<◌, ◌≤◌, true, leb, ◌≢◌, List, [], ◌∷◌, ◌++◌, length, Ok, sym, refl, ap, ◌∙◌, subst, append_assoc, arith, length-append}
-use Rattle.std.specs.List.{AllByRecursion as All}
+use Rattle.std.specs.List.{AllByRecursion}
 use Rattle.std.proofs.lemmas.List.{append-nil}
 use Rattle.std.proofs.lemmas.Bool.{le-leb, lt-leb, eq-eqb, and_from}
 use Rattle.format.specs.Content.{Limits, at_least, at_most, between, GivenVariable, GivenRow, Content, GoodVariable, Different, GoodTerm, GoodLimits, GoodRow, GoodTolerance, WellFormed}
@@ -38,20 +38,20 @@ begun_push : (vs : List GivenVariable) (v : GivenVariable) → variables (vs ++ 
 begun_push [] v = refl
 begun_push (w ∷ ws) v = refl
 
-all_mid : (P : GivenVariable → Type 0) (vs : List GivenVariable) (w : GivenVariable) (ws : List GivenVariable) → All P (vs ++ w ∷ ws) → P w
+all_mid : (P : GivenVariable → Type 0) (vs : List GivenVariable) (w : GivenVariable) (ws : List GivenVariable) → AllByRecursion P (vs ++ w ∷ ws) → P w
 all_mid P [] w ws h = h.0
 all_mid P (v ∷ vs) w ws h = all_mid P vs w ws h.1
 
-fresh : (vs : List GivenVariable) (w : GivenVariable) (ws : List GivenVariable) → Different (vs ++ w ∷ ws) → All (λ u. u.name ≢ w.name) vs
+fresh : (vs : List GivenVariable) (w : GivenVariable) (ws : List GivenVariable) → Different (vs ++ w ∷ ws) → AllByRecursion (λ u. u.name ≢ w.name) vs
 fresh [] w ws h = tt
 fresh (v ∷ vs) w ws h = (all_mid (λ u. v.name ≢ u.name) vs w ws h.0, fresh vs w ws h.1)
 
-variable_step : (vs : List GivenVariable) (v : GivenVariable) (p : ℕ) → length vs < 8 → GoodVariable v → All (λ u. u.name ≢ v.name) vs → add_variable vs p v ≡ goes_on (begun (vs ++ v ∷ []))
+variable_step : (vs : List GivenVariable) (v : GivenVariable) (p : ℕ) → length vs < 8 → GoodVariable v → AllByRecursion (λ u. u.name ≢ v.name) vs → add_variable vs p v ≡ goes_on (begun (vs ++ v ∷ []))
 variable_step vs v p l g f =
     let told = (decides_variable v).1 (g.lo_count, (g.hi_count, (g.nominal_count, (g.from_lo, (g.to_hi, g.letters))))) in
     rw (lt-leb 8 (length vs) l, told, not_taken v.name vs f) (ap goes_on (begun_push vs v))
 
-accept_variable : (vs : List GivenVariable) (v : GivenVariable) (rest : List ℕ) (c : Content) → length vs < 8 → GoodVariable v → All (λ u. u.name ≢ v.name) vs → Accepts rest (begun (vs ++ v ∷ [])) c → Accepts (field a_variable (variable_content v) ++ rest) (begun vs) c
+accept_variable : (vs : List GivenVariable) (v : GivenVariable) (rest : List ℕ) (c : Content) → length vs < 8 → GoodVariable v → AllByRecursion (λ u. u.name ≢ v.name) vs → Accepts rest (begun (vs ++ v ∷ [])) c → Accepts (field a_variable (variable_content v) ++ rest) (begun vs) c
 accept_variable vs v rest c l g f a =
     let few = g.short in
     let some = g.named in
@@ -60,7 +60,7 @@ accept_variable vs v rest c l g f a =
     (λ p. begun_step vs p (variable_content v) ∙ ap (add_variable vs p) (variable_there v g) ∙ variable_step vs v p l g f)
     a
 
-accept_variables : (vs ws : List GivenVariable) (rest : List ℕ) (c : Content) → length (vs ++ ws) ≤ 8 → All GoodVariable ws → Different (vs ++ ws) → Accepts rest (begun (vs ++ ws)) c → Accepts (variables_written ws ++ rest) (begun vs) c
+accept_variables : (vs ws : List GivenVariable) (rest : List ℕ) (c : Content) → length (vs ++ ws) ≤ 8 → AllByRecursion GoodVariable ws → Different (vs ++ ws) → Accepts rest (begun (vs ++ ws)) c → Accepts (variables_written ws ++ rest) (begun vs) c
 accept_variables vs [] rest c l g d a = subst (λ us. Accepts rest (begun us) c) (append-nil vs) a
 accept_variables vs (w ∷ ws) rest c l g d a =
     let e : vs ++ (w ∷ ws) ≡ (vs ++ w ∷ []) ++ ws = sym (append_assoc vs (w ∷ []) ws) in
@@ -107,7 +107,7 @@ accept_term d vs t rs k ts x rest c s l g a =
     (λ p. s.so p (term_content x) ∙ ap (add_term vs t rs k ts p) (term_there (length vs) x g) ∙ rw (lt-leb 12 (length ts) l, (decides_term x).1 (g.c_count, g.small)))
     a
 
-accept_terms : (vs : List GivenVariable) (t : ℕ) (rs : List GivenRow) (k : Limits) (ts xs : List Term) (rest : List ℕ) (c : Content) → length (ts ++ xs) ≤ 12 → All (GoodTerm (length vs)) xs → Accepts rest (terms vs t rs k (ts ++ xs)) c → Accepts (terms_written xs ++ rest) (terms vs t rs k ts) c
+accept_terms : (vs : List GivenVariable) (t : ℕ) (rs : List GivenRow) (k : Limits) (ts xs : List Term) (rest : List ℕ) (c : Content) → length (ts ++ xs) ≤ 12 → AllByRecursion (GoodTerm (length vs)) xs → Accepts rest (terms vs t rs k (ts ++ xs)) c → Accepts (terms_written xs ++ rest) (terms vs t rs k ts) c
 accept_terms vs t rs k ts [] rest c l g a = subst (λ us. Accepts rest (terms vs t rs k us) c) (append-nil ts) a
 accept_terms vs t rs k ts (x ∷ xs) rest c l g a =
     let e : ts ++ (x ∷ xs) ≡ (ts ++ x ∷ []) ++ xs = sym (append_assoc ts (x ∷ []) xs) in
@@ -119,7 +119,7 @@ accept_terms vs t rs k ts (x ∷ xs) rest c l g a =
     subst (λ us. Accepts us (terms vs t rs k ts) c) (sym (append_assoc (field a_term (term_content x)) (terms_written xs) rest)) one
 
 -- all terms of a row, of which there is one at least
-accept_all_terms : (vs : List GivenVariable) (t : ℕ) (rs : List GivenRow) (k : Limits) (xs : List Term) (rest : List ℕ) (c : Content) → 1 ≤ length xs → length xs ≤ 12 → All (GoodTerm (length vs)) xs → Accepts rest (terms vs t rs k xs) c → Accepts (terms_written xs ++ rest) (row vs t rs k) c
+accept_all_terms : (vs : List GivenVariable) (t : ℕ) (rs : List GivenRow) (k : Limits) (xs : List Term) (rest : List ℕ) (c : Content) → 1 ≤ length xs → length xs ≤ 12 → AllByRecursion (GoodTerm (length vs)) xs → Accepts rest (terms vs t rs k xs) c → Accepts (terms_written xs ++ rest) (row vs t rs k) c
 accept_all_terms vs t rs k [] rest c s l g a = absurd (omega arith)
 accept_all_terms vs t rs k (x ∷ xs) rest c s l g a =
     let ih : Accepts (terms_written xs ++ rest) (terms vs t rs k (x ∷ [])) c = accept_terms vs t rs k (x ∷ []) xs rest c l g.1 a in
@@ -135,7 +135,7 @@ accept_whole_row d vs t rs q rest c s l g a =
 accept_end : (vs : List GivenVariable) (t : ℕ) (rs : List GivenRow) (k : Limits) (ts : List Term) → Accepts (field an_end []) (terms vs t rs k ts) (record { variables = vs; tolerance = t; rows = closed rs k ts })
 accept_end vs t rs k ts p = whole_is p (field an_end []) (terms vs t rs k ts)
 
-accept_rows : (d : Draft) (vs : List GivenVariable) (t : ℕ) (rs : List GivenRow) (q : GivenRow) (qs : List GivenRow) → TakesRow d vs t rs → length (rs ++ q ∷ qs) ≤ 16 → All (GoodRow (length vs)) (q ∷ qs) → Accepts (rows_written (q ∷ qs) ++ field an_end []) d (record { variables = vs; tolerance = t; rows = rs ++ q ∷ qs })
+accept_rows : (d : Draft) (vs : List GivenVariable) (t : ℕ) (rs : List GivenRow) (q : GivenRow) (qs : List GivenRow) → TakesRow d vs t rs → length (rs ++ q ∷ qs) ≤ 16 → AllByRecursion (GoodRow (length vs)) (q ∷ qs) → Accepts (rows_written (q ∷ qs) ++ field an_end []) d (record { variables = vs; tolerance = t; rows = rs ++ q ∷ qs })
 accept_rows d vs t rs q [] s l g =
     let m = length-append rs (q ∷ []) in
     subst (λ us. Accepts (us ++ field an_end []) d (record { variables = vs; tolerance = t; rows = rs ++ q ∷ [] })) (sym (append-nil (row_written q)))
@@ -150,7 +150,7 @@ accept_rows d vs t rs q (r ∷ qs) s l g =
     subst (λ us. Accepts us d c) (sym (append_assoc (row_written q) (rows_written (r ∷ qs)) (field an_end [])))
     (accept_whole_row d vs t rs q (rows_written (r ∷ qs) ++ field an_end []) c s (omega arith) g.0 ih)
 
-accept_from_rows : (vs : List GivenVariable) (t : ℕ) (rs : List GivenRow) → 1 ≤ length rs → length rs ≤ 16 → All (GoodRow (length vs)) rs → Accepts (rows_written rs ++ field an_end []) (tolerance vs t) (record { variables = vs; tolerance = t; rows = rs })
+accept_from_rows : (vs : List GivenVariable) (t : ℕ) (rs : List GivenRow) → 1 ≤ length rs → length rs ≤ 16 → AllByRecursion (GoodRow (length vs)) rs → Accepts (rows_written rs ++ field an_end []) (tolerance vs t) (record { variables = vs; tolerance = t; rows = rs })
 accept_from_rows vs t [] s l g = absurd (omega arith)
 accept_from_rows vs t (q ∷ qs) s l g = accept_rows (tolerance vs t) vs t [] q qs (λ p xs. refl) l g
 

@@ -1,6 +1,6 @@
 -- The content of each field, there and back.
 use Rattle.std.proofs.Common.{◌≡◌, ℕ, suc, ◌≤◌, Bool, true, false, cond, eqb, ◌⊎◌, List, [], ◌∷◌, ◌++◌, length, drop, Some, None, refl, ap, ◌∙◌, inl, inr, arith, length-drop}
-use Rattle.std.specs.List.{AllByRecursion as All}
+use Rattle.std.specs.List.{AllByRecursion}
 use Rattle.std.proofs.lemmas.List.{drop-drop, drop_all}
 use Rattle.std.proofs.ByRecursion.{All-drop}
 use Rattle.std.proofs.lemmas.Bool.{eqb-true, eqb-false}
@@ -16,7 +16,7 @@ pub none_some : {A X : Type 0} (x : A) → None ≡ Some x → X
 none_some x h = let z : ◌≡◌ {A = ℕ} 0 1 = cc in absurd (omega arith)
 
 -- a variable
-pub variable_of : (xs : List ℕ) → All Byte xs → 12 ≤ length xs → xs ≡ variable_content (variable_in xs)
+pub variable_of : (xs : List ℕ) → AllByRecursion Byte xs → 12 ≤ length xs → xs ≡ variable_content (variable_in xs)
 variable_of xs b h =
     let l = length-drop 4 xs in
     let m = length-drop 8 xs in
@@ -43,10 +43,10 @@ limits_there (at_least lo) g = ap (λ z. Some (at_least z)) (count_there lo [] g
 limits_there (at_most hi) g = ap (λ z. Some (at_most z)) (count_there hi [] g)
 limits_there (between lo hi) g = λ i. Some (between (count_there lo (count_bytes hi) g.0 i) (count_there hi [] g.1 i))
 
-whole_count : (ys : List ℕ) → All Byte ys → length ys ≡ 4 → ys ≡ count_bytes (count_in ys)
+whole_count : (ys : List ℕ) → AllByRecursion Byte ys → length ys ≡ 4 → ys ≡ count_bytes (count_in ys)
 whole_count ys b l = count_of ys b (omega arith) ∙ ap (λ (zs : List ℕ). count_bytes (count_in ys) ++ zs) (drop_all 4 ys (omega arith))
 
-two_counts : (ys : List ℕ) → All Byte ys → length ys ≡ 8 → ys ≡ count_bytes (count_in ys) ++ count_bytes (count_in (drop 4 ys))
+two_counts : (ys : List ℕ) → AllByRecursion Byte ys → length ys ≡ 8 → ys ≡ count_bytes (count_in ys) ++ count_bytes (count_in (drop 4 ys))
 two_counts ys b l =
     let m = length-drop 4 ys in
     count_of ys b (omega arith) ∙ ap (λ (zs : List ℕ). count_bytes (count_in ys) ++ zs) (whole_count (drop 4 ys) (All-drop Byte 4 ys b) (omega arith))
@@ -63,7 +63,7 @@ read_between : (y : ℕ) (ys : List ℕ) (k : Limits) → ys ≡ count_bytes (co
 read_between y ys k e (inl h) = (λ i. eqb-true y 3 h.0 i ∷ e i) ∙ ap limits_content h.1
 read_between y ys k e (inr h) = none_some k h
 
-limits_by_of : (y : ℕ) (ys : List ℕ) (k : Limits) (b : Bool) → All Byte ys → (b ≡ true → length ys ≡ 4) → (b ≡ false → length ys ≡ 8) → limits_by y b ys ≡ Some k → y ∷ ys ≡ limits_content k
+limits_by_of : (y : ℕ) (ys : List ℕ) (k : Limits) (b : Bool) → AllByRecursion Byte ys → (b ≡ true → length ys ≡ 4) → (b ≡ false → length ys ≡ 8) → limits_by y b ys ≡ Some k → y ∷ ys ≡ limits_content k
 limits_by_of y ys k true bs f g h = read_at_least y ys k (whole_count ys bs (f refl)) (cond_some (eqb y 1) (at_least (count_in ys)) _ k h)
 limits_by_of y ys k false bs f g h = read_between y ys k (two_counts ys bs (g refl)) (cond_some (eqb y 3) (between (count_in ys) (count_in (drop 4 ys))) None k h)
 
@@ -75,7 +75,7 @@ not_five : (l : ℕ) → (l ≡ 5) ⊎ (l ≡ 9) → eqb l 5 ≡ false → l ≡
 not_five l (inl h) e = absurd (eqb-false l 5 e h)
 not_five l (inr h) e = h
 
-pub limits_of : (xs : List ℕ) (k : Limits) → All Byte xs → (length xs ≡ 5) ⊎ (length xs ≡ 9) → limits_in xs ≡ Some k → xs ≡ limits_content k
+pub limits_of : (xs : List ℕ) (k : Limits) → AllByRecursion Byte xs → (length xs ≡ 5) ⊎ (length xs ≡ 9) → limits_in xs ≡ Some k → xs ≡ limits_content k
 limits_of [] k b (inl l) h = absurd (omega arith)
 limits_of [] k b (inr l) h = absurd (omega arith)
 limits_of (y ∷ ys) k b l h = limits_by_of y ys k (eqb (suc (length ys)) 5) b.1 (λ e. let f = eqb-true (suc (length ys)) 5 e in omega arith) (λ e. let f = not_five (suc (length ys)) l e in omega arith) h

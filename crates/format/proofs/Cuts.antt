@@ -1,6 +1,6 @@
 -- The field reader gives what stands there, and reads what was written; and the sheet reader goes on field by field.
 use Rattle.std.proofs.Common.{◌≡◌, ℕ, zero, suc, ◌+◌, ◌*◌, ◌/◌, ◌%◌, ◌<◌, ◌≤◌, Bool, true, false, cond, eqb, leb, ◌⊎◌, List, [], ◌∷◌, ◌++◌, length, take, drop, Some, None, Ok, Err, Option, Result, sym, refl, ap, ◌∙◌, inl, inr, arith, length-append, length-drop}
-use Rattle.std.specs.List.{AllByRecursion as All}
+use Rattle.std.specs.List.{AllByRecursion}
 use Rattle.std.proofs.lemmas.List.{length-take-le, take-append-drop, take_at, drop_at}
 use Rattle.std.proofs.lemmas.Bool.{leb-true, le-leb, eqb-true}
 use Rattle.format.specs.declared.fault.FieldFault.{FieldFault}
@@ -79,7 +79,7 @@ pub record Front (n : ℕ) (xs : List ℕ) (x : Cut) : Type 0 where
 short_ok : {X : Type 0} (e : FieldFault) (x : Cut) → Err e ≡ Ok x → X
 short_ok e x h = let z : ◌≡◌ {A = ℕ} 0 1 = cc in absurd (omega arith)
 
-pub front : (n p : ℕ) (xs : List ℕ) (x : Cut) → All Byte xs → read_field n p xs ≡ Ok x → Front n xs x
+pub front : (n p : ℕ) (xs : List ℕ) (x : Cut) → AllByRecursion Byte xs → read_field n p xs ≡ Ok x → Front n xs x
 front n p [] x b h = short_ok _ x h
 front n p (t ∷ []) x b h = short_ok _ x h
 front n p (t ∷ i ∷ []) x b h = short_ok _ x h

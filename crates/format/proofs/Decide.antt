@@ -1,7 +1,7 @@
 -- Each test of the reader decides the fact that it is for.
 use Rattle.std.proofs.Common.{◌≡◌, ℕ, ◌≤◌, Bool, true, false, ◌&&◌, T, eqb, leb, ◌≢◌, List, [], ◌∷◌, ℤ, ◌≤ℤ◌, Decides, sym, refl}
 use lib.Signed.{le_z}
-use Rattle.std.specs.List.{AllByRecursion as All}
+use Rattle.std.specs.List.{AllByRecursion}
 use Rattle.std.specs.Str.{bytes_eq}
 use Rattle.std.proofs.lemmas.Bool.{leb-true, le-leb, both_ways, or_parts, or_from, eqb-true, eq-eqb, true≢false}
 use Rattle.std.proofs.lemmas.Bool.Decides.{Decides-and, Decides-or, Decides-like}
@@ -35,12 +35,12 @@ decides_count z = Decides-and _ _ (decides_le_z _ _) (decides_le_z _ _)
 decides_letter : (b : ℕ) → Decides (is_letter b) (Letter b)
 decides_letter b = Decides-or _ _ (Decides-and _ _ (decides_leb _ _) (decides_leb _ _)) (Decides-and _ _ (decides_leb _ _) (decides_leb _ _))
 
-pub decides_letters : (bs : List ℕ) → Decides (are_letters bs) (All Letter bs)
+pub decides_letters : (bs : List ℕ) → Decides (are_letters bs) (AllByRecursion Letter bs)
 decides_letters = Decides-by_and is_letter Letter are_letters decides_letter refl (λ x xs. refl)
 
 -- what the test of a variable tells, the name's length aside
 abbrev pub Told : GivenVariable → Type 0
-Told v = Count v.lo × (Count v.hi × (Count v.nominal × ((v.lo ≤ℤ v.nominal) × ((v.nominal ≤ℤ v.hi) × All Letter v.name))))
+Told v = Count v.lo × (Count v.hi × (Count v.nominal × ((v.lo ≤ℤ v.nominal) × ((v.nominal ≤ℤ v.hi) × AllByRecursion Letter v.name))))
 
 pub decides_variable : (v : GivenVariable) → Decides (good_variable v) (Told v)
 decides_variable v =
@@ -62,7 +62,7 @@ pub decides_tolerance : (t : ℕ) → Decides (leb 1 t && leb t 2147483647) (Goo
 decides_tolerance t = Decides-and _ _ (decides_leb _ _) (decides_leb _ _)
 
 -- no variable of the list has the name
-pub taken_not : (name : List ℕ) (vs : List GivenVariable) → taken name vs ≡ false → All (λ v. v.name ≢ name) vs
+pub taken_not : (name : List ℕ) (vs : List GivenVariable) → taken name vs ≡ false → AllByRecursion (λ v. v.name ≢ name) vs
 taken_not name [] e = tt
 taken_not name (v ∷ vs) e =
     let p = or_parts (bytes_eq v.name name) (taken name vs) e in
@@ -72,6 +72,6 @@ pub false_from : (b : Bool) (P : Type 0) → Decides b P → (P → ⊥) → b �
 false_from true P d n = absurd (n (d.0 refl))
 false_from false P d n = refl
 
-pub not_taken : (name : List ℕ) (vs : List GivenVariable) → All (λ v. v.name ≢ name) vs → taken name vs ≡ false
+pub not_taken : (name : List ℕ) (vs : List GivenVariable) → AllByRecursion (λ v. v.name ≢ name) vs → taken name vs ≡ false
 not_taken name [] h = refl
 not_taken name (v ∷ vs) h = or_from _ _ (false_from _ _ (bytes_eq-Decides v.name name) h.0) (not_taken name vs h.1)

@@ -1,6 +1,6 @@
 -- The theorem: both directions.
 use Rattle.std.proofs.Common.{◌≡◌, ℕ, Bool, true, false, cond, ltb, leb, List, length, Ok, Err, Result, sym, refl, ap, ◌∙◌, subst}
-use Rattle.std.specs.List.{AllByRecursion as All}
+use Rattle.std.specs.List.{AllByRecursion}
 use Rattle.std.proofs.lemmas.Bool.{le-leb, leb-true, le-ltb, ltb-false, and_from, and_parts}
 use Rattle.format.specs.declared.fault.SheetFault.{SheetFault}
 use Rattle.format.specs.declared.fault.SheetFault.TheVariants.{TooLong, NoRoom}
@@ -23,7 +23,7 @@ placed_ok l r t (Ok d) c h =
     let s : d ≡ c = cc in
     (i, ap (roomy r t) (sym s) ∙ q.0)
 
-pub only : (xs : List ℕ) → All Byte xs → (r t : ℕ) (c : Content) → read_sheet xs r t ≡ Ok c → Says xs r t c
+pub only : (xs : List ℕ) → AllByRecursion Byte xs → (r t : ℕ) (c : Content) → read_sheet xs r t ≡ Ok c → Says xs r t c
 unfolding read_sheet whole
 only xs b r t c h =
     let p = short_ok (ltb 4096 (length xs)) TooLong _ c h in

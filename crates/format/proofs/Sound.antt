@@ -1,6 +1,6 @@
 -- What the reader accepts is well formed, and is the sheet as it is written.
 use Rattle.std.proofs.Common.{◌≡◌, ℕ, zero, suc, ◌+◌, ◌≤◌, true, false, ◌&&◌, leb, ◌≢◌, ◌⊎◌, List, [], ◌∷◌, ◌++◌, length, Some, None, Ok, Err, Option, Result, sym, refl, ap, ◌∙◌, subst, append_assoc, arith, length-append, length-drop}
-use Rattle.std.specs.List.{AllByRecursion as All}
+use Rattle.std.specs.List.{AllByRecursion}
 use Rattle.std.proofs.lemmas.List.{flat_map_more, drop_all, append-nil}
 use Rattle.std.proofs.ByRecursion.{All-push}
 use Rattle.std.proofs.lemmas.Bool.{leb-true, leb-false, eqb-true, and_parts, or_cases, cond_both}
@@ -21,8 +21,8 @@ abbrev pub Good : Draft → Type 0
 Good start = Unit {0}
 Good (variables vs) = GoodVariables vs
 Good (tolerance vs t) = GoodVariables vs × GoodTolerance t
-Good (row vs t rs k) = GoodVariables vs × GoodTolerance t × (length rs ≤ 15) × All (GoodRow (length vs)) rs × GoodLimits k
-Good (terms vs t rs k ts) = GoodVariables vs × GoodTolerance t × (length rs ≤ 15) × All (GoodRow (length vs)) rs × GoodRow (length vs) (record { limits = k; terms = ts })
+Good (row vs t rs k) = GoodVariables vs × GoodTolerance t × (length rs ≤ 15) × AllByRecursion (GoodRow (length vs)) rs × GoodLimits k
+Good (terms vs t rs k ts) = GoodVariables vs × GoodTolerance t × (length rs ≤ 15) × AllByRecursion (GoodRow (length vs)) rs × GoodRow (length vs) (record { limits = k; terms = ts })
 
 abbrev head : List GivenVariable → ℕ → List ℕ
 head vs t = variables_written vs ++ field a_tolerance (four t)
@@ -40,11 +40,11 @@ StepSound d f (goes_on e) = Good e × (so_far d ++ f ≡ so_far e)
 StepSound d f (ends c) = WellFormed c × (so_far d ++ f ≡ written c)
 StepSound d f (stops e) = Unit {0}
 
-different_push : (vs : List GivenVariable) (v : GivenVariable) → Different vs → All (λ w. w.name ≢ v.name) vs → Different (vs ++ v ∷ [])
+different_push : (vs : List GivenVariable) (v : GivenVariable) → Different vs → AllByRecursion (λ w. w.name ≢ v.name) vs → Different (vs ++ v ∷ [])
 different_push [] v d h = (tt, tt)
 different_push (w ∷ ws) v d h = (All-push (λ u. w.name ≢ u.name) ws v d.0 h.0, different_push ws v d.1 h.1)
 
-variable_sound : (d : Draft) (vs : List GivenVariable) (p : ℕ) (xs : List ℕ) → so_far d ≡ variables_written vs → All GoodVariable vs → Different vs → All Byte xs → 13 ≤ length xs → length xs ≤ 20 → StepSound d (field a_variable xs) (add_variable vs p (variable_in xs))
+variable_sound : (d : Draft) (vs : List GivenVariable) (p : ℕ) (xs : List ℕ) → so_far d ≡ variables_written vs → AllByRecursion GoodVariable vs → Different vs → AllByRecursion Byte xs → 13 ≤ length xs → length xs ≤ 20 → StepSound d (field a_variable xs) (add_variable vs p (variable_in xs))
 variable_sound d vs p xs s each diff b l m =
     let v : GivenVariable = variable_in xs in
     let P : Step → Type 0 = StepSound d (field a_variable xs) in
@@ -62,7 +62,7 @@ variable_sound d vs p xs s each diff b l m =
     )))
     (λ g. tt))
 
-tolerance_sound : (vs : List GivenVariable) (p : ℕ) (xs : List ℕ) → GoodVariables vs → All Byte xs → length xs ≡ 4 → StepSound (variables vs) (field a_tolerance xs) (set_tolerance vs p (number_in xs))
+tolerance_sound : (vs : List GivenVariable) (p : ℕ) (xs : List ℕ) → GoodVariables vs → AllByRecursion Byte xs → length xs ≡ 4 → StepSound (variables vs) (field a_tolerance xs) (set_tolerance vs p (number_in xs))
 tolerance_sound vs p xs g b l =
     let P : Step → Type 0 = StepSound (variables vs) (field a_tolerance xs) in
     cond_both (leb 1 (number_in xs) && leb (number_in xs) 2147483647) _ _ P
@@ -73,7 +73,7 @@ tolerance_sound vs p xs g b l =
     (λ e. tt)
 
 -- d is a draft whose rows, all of them complete, are rs
-row_sound : (d : Draft) (vs : List GivenVariable) (t : ℕ) (rs : List GivenRow) (p : ℕ) (xs : List ℕ) → so_far d ≡ head vs t ++ rows_written rs → GoodVariables vs → GoodTolerance t → All (GoodRow (length vs)) rs → All Byte xs → (length xs ≡ 5) ⊎ (length xs ≡ 9) → StepSound d (field a_row xs) (add_row vs t rs p (limits_in xs))
+row_sound : (d : Draft) (vs : List GivenVariable) (t : ℕ) (rs : List GivenRow) (p : ℕ) (xs : List ℕ) → so_far d ≡ head vs t ++ rows_written rs → GoodVariables vs → GoodTolerance t → AllByRecursion (GoodRow (length vs)) rs → AllByRecursion Byte xs → (length xs ≡ 5) ⊎ (length xs ≡ 9) → StepSound d (field a_row xs) (add_row vs t rs p (limits_in xs))
 row_sound d vs t rs p xs s gv gt gr b l =
     cond_both (leb 16 (length rs)) _ _ P (λ e. tt) (λ e. go e (limits_in xs) refl)
   where
@@ -89,7 +89,7 @@ row_sound d vs t rs p xs s gv gt gr b l =
         (λ g. tt)
 
 -- d is a draft whose last row has the terms ts so far
-term_sound : (d : Draft) (vs : List GivenVariable) (t : ℕ) (rs : List GivenRow) (k : Limits) (ts : List Term) (p : ℕ) (xs : List ℕ) → so_far d ≡ head vs t ++ (rows_written rs ++ row_written (record { limits = k; terms = ts })) → GoodVariables vs → GoodTolerance t → length rs ≤ 15 → All (GoodRow (length vs)) rs → GoodLimits k → All (GoodTerm (length vs)) ts → All Byte xs → length xs ≡ 4 + length vs → StepSound d (field a_term xs) (add_term vs t rs k ts p (term_in xs))
+term_sound : (d : Draft) (vs : List GivenVariable) (t : ℕ) (rs : List GivenRow) (k : Limits) (ts : List Term) (p : ℕ) (xs : List ℕ) → so_far d ≡ head vs t ++ (rows_written rs ++ row_written (record { limits = k; terms = ts })) → GoodVariables vs → GoodTolerance t → length rs ≤ 15 → AllByRecursion (GoodRow (length vs)) rs → GoodLimits k → AllByRecursion (GoodTerm (length vs)) ts → AllByRecursion Byte xs → length xs ≡ 4 + length vs → StepSound d (field a_term xs) (add_term vs t rs k ts p (term_in xs))
 term_sound d vs t rs k ts p xs s gv gt few gr gk gts b l =
     let x : Term = term_in xs in
     let P : Step → Type 0 = StepSound d (field a_term xs) in
@@ -127,7 +127,7 @@ end_sound vs t rs k ts xs g l =
           ∙ append_assoc (variables_written vs) (field a_tolerance (four t)) (rows_written (closed rs k ts) ++ field an_end []),
     )
 
-step_sound : (d : Draft) (p : ℕ) (k : FieldKind) (xs : List ℕ) → Good d → All Byte xs → right_length (variable_count d) k (length xs) ≡ true → StepSound d (field k xs) (step d p k xs)
+step_sound : (d : Draft) (p : ℕ) (k : FieldKind) (xs : List ℕ) → Good d → AllByRecursion Byte xs → right_length (variable_count d) k (length xs) ≡ true → StepSound d (field k xs) (step d p k xs)
 step_sound start p a_variable xs g b l = let q = and_parts _ _ l in variable_sound start [] p xs refl tt tt b (leb-true 13 (length xs) q.0) (leb-true (length xs) 20 q.1)
 step_sound start p a_tolerance xs g b l = tt
 step_sound start p a_row xs g b l = tt
@@ -157,7 +157,7 @@ step_sound (terms vs t rs k ts) p an_end xs g b l = end_sound vs t rs k ts xs g 
 pub fault_ok : {X : Type 0} (e : SheetFault) (c : Content) → Err e ≡ Ok c → X
 fault_ok e c h = let z : ◌≡◌ {A = ℕ} 0 1 = cc in absurd (omega arith)
 
-all_split : (xs ys : List ℕ) → All Byte (xs ++ ys) → All Byte xs × All Byte ys
+all_split : (xs ys : List ℕ) → AllByRecursion Byte (xs ++ ys) → AllByRecursion Byte xs × AllByRecursion Byte ys
 all_split [] ys h = (tt, h)
 all_split (x ∷ xs) ys h = let q = all_split xs ys h.1 in ((h.0, q.0), q.1)
 
@@ -168,8 +168,8 @@ ended_sound c e p (x ∷ xs) h = fault_ok _ c h
 abbrev Sound : Draft → List ℕ → Content → Type 0
 Sound d rest c = WellFormed c × (so_far d ++ rest ≡ written c)
 
-after_step_sound : (more : ℕ → List ℕ → Draft → Result Content SheetFault) → ((p : ℕ) (rest : List ℕ) (d : Draft) (c : Content) → Good d → All Byte rest → more p rest d ≡ Ok c → Sound d rest c)
-    → (d : Draft) (f rest : List ℕ) (c : Content) (p : ℕ) (s : Step) → All Byte rest → StepSound d f s → after_step more p rest s ≡ Ok c → Sound d (f ++ rest) c
+after_step_sound : (more : ℕ → List ℕ → Draft → Result Content SheetFault) → ((p : ℕ) (rest : List ℕ) (d : Draft) (c : Content) → Good d → AllByRecursion Byte rest → more p rest d ≡ Ok c → Sound d rest c)
+    → (d : Draft) (f rest : List ℕ) (c : Content) (p : ℕ) (s : Step) → AllByRecursion Byte rest → StepSound d f s → after_step more p rest s ≡ Ok c → Sound d (f ++ rest) c
 after_step_sound more ih d f rest c p (goes_on e) b g h =
     let q = ih p rest e c g.0 b h in
     (q.0, sym (append_assoc (so_far d) f rest) ∙ ap (λ (ys : List ℕ). ys ++ rest) g.1 ∙ q.1)
@@ -178,17 +178,17 @@ after_step_sound more ih d f rest c p (ends e) b g h =
     (subst WellFormed q.0 g.0, ap (λ (ys : List ℕ). so_far d ++ (f ++ ys)) q.1 ∙ ap (λ (ys : List ℕ). so_far d ++ ys) (append-nil f) ∙ g.1 ∙ ap written q.0)
 after_step_sound more ih d f rest c p (stops e) b g h = fault_ok e c h
 
-after_field_sound : (more : ℕ → List ℕ → Draft → Result Content SheetFault) → ((p : ℕ) (rest : List ℕ) (d : Draft) (c : Content) → Good d → All Byte rest → more p rest d ≡ Ok c → Sound d rest c)
-    → (p : ℕ) (rest : List ℕ) (d : Draft) (c : Content) → Good d → All Byte rest → (r : Result Cut FieldFault) → read_field (variable_count d) p rest ≡ r → after_field more p d r ≡ Ok c → Sound d rest c
+after_field_sound : (more : ℕ → List ℕ → Draft → Result Content SheetFault) → ((p : ℕ) (rest : List ℕ) (d : Draft) (c : Content) → Good d → AllByRecursion Byte rest → more p rest d ≡ Ok c → Sound d rest c)
+    → (p : ℕ) (rest : List ℕ) (d : Draft) (c : Content) → Good d → AllByRecursion Byte rest → (r : Result Cut FieldFault) → read_field (variable_count d) p rest ≡ r → after_field more p d r ≡ Ok c → Sound d rest c
 after_field_sound more ih p rest d c g b (Err e) i h = fault_ok _ c h
 after_field_sound more ih p rest d c g b (Ok x) i h =
     let q = front (variable_count d) p rest x b i in
-    let bs : All Byte (field x.kind x.content ++ x.rest) = subst (All Byte) q.is b in
+    let bs : AllByRecursion Byte (field x.kind x.content ++ x.rest) = subst (AllByRecursion Byte) q.is b in
     let parts = all_split x.content x.rest bs.1.1.1 in
     let s = after_step_sound more ih d (field x.kind x.content) x.rest c _ (step d p x.kind x.content) parts.1 (step_sound d p x.kind x.content g parts.0 q.right) h in
     (s.0, ap (λ (ys : List ℕ). so_far d ++ ys) q.is ∙ s.1)
 
-pub reading_sound : (k p : ℕ) (rest : List ℕ) (d : Draft) (c : Content) → Good d → All Byte rest → reading k p rest d ≡ Ok c → Sound d rest c
+pub reading_sound : (k p : ℕ) (rest : List ℕ) (d : Draft) (c : Content) → Good d → AllByRecursion Byte rest → reading k p rest d ≡ Ok c → Sound d rest c
 unfolding reading
 reading_sound zero p rest d c g b h = fault_ok _ c h
 reading_sound (suc k) p rest d c g b h = after_field_sound (reading k) (reading_sound k) p rest d c g b (read_field (variable_count d) p rest) refl h

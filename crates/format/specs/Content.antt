@@ -1,6 +1,6 @@
 -- What a sheet says, and which contents are well formed.
 use Rattle.std.specs.Prelude.{◌≡◌, ℕ, ◌+◌, ◌≤◌, ◌≢◌, ◌⊎◌, List, [], ◌∷◌, length, ℤ, ◌≤ℤ◌}
-use Rattle.std.specs.List.{AllByRecursion as All}
+use Rattle.std.specs.List.{AllByRecursion}
 use Rattle.numbers.specs.Rows.{Term, degree}
 use Rattle.span.specs.Making.{Count}
 
@@ -38,17 +38,17 @@ pub record GoodVariable (v : GivenVariable) : Type 0 where
   pub to_hi : v.nominal ≤ℤ v.hi
   pub named : 1 ≤ length v.name
   pub short : length v.name ≤ 8
-  pub letters : All Letter v.name
+  pub letters : AllByRecursion Letter v.name
 
 -- no two have the same name
 abbrev pub Different : List GivenVariable → Type 0
 Different [] = Unit {0}
-Different (v ∷ vs) = All (λ w. v.name ≢ w.name) vs × Different vs
+Different (v ∷ vs) = AllByRecursion (λ w. v.name ≢ w.name) vs × Different vs
 
 pub record GoodVariables (vs : List GivenVariable) : Type 0 where
   pub some : 1 ≤ length vs
   pub most : length vs ≤ 8
-  pub each : All GoodVariable vs
+  pub each : AllByRecursion GoodVariable vs
   pub different : Different vs
 
 -- of n variables
@@ -66,7 +66,7 @@ pub record GoodRow (n : ℕ) (r : GivenRow) : Type 0 where
   pub limits : GoodLimits r.limits
   pub some : 1 ≤ length r.terms
   pub most : length r.terms ≤ 12
-  pub each : All (GoodTerm n) r.terms
+  pub each : AllByRecursion (GoodTerm n) r.terms
 
 abbrev pub GoodTolerance : ℕ → Type 0
 GoodTolerance t = (1 ≤ t) × (t ≤ 2147483647)
@@ -76,7 +76,7 @@ pub record WellFormed (c : Content) : Type 0 where
   pub tolerance : GoodTolerance c.tolerance
   pub some : 1 ≤ length c.rows
   pub most : length c.rows ≤ 16
-  pub each : All (GoodRow (length c.variables)) c.rows
+  pub each : AllByRecursion (GoodRow (length c.variables)) c.rows
 
 -- the number of terms in all rows
 abbrev pub term_total : List GivenRow → ℕ

@@ -1,6 +1,5 @@
 -- What the code of the row test and of the pass gives on each way.
-use Rattle.std.proofs.Common.{◌≡◌, ℕ, suc, ◌+◌, ◌-◌, ◌<◌, ◌≤◌, true, false, List, length, get_or, drop, pos, Some, None, Option, sym, ap, ◌∙◌, subst, ap₂, add-one, arith}
-use Rattle.std.proofs.lemmas.List.{get_or_default}
+use Rattle.std.proofs.Common.{◌≡◌, ℕ, suc, ◌+◌, ◌-◌, ◌<◌, ◌≤◌, true, false, List, ◌∷◌, map, length, get_or, take, drop, Some, None, Option, sym, ap, ◌∙◌, add-one, arith}
 use Rattle.span.specs.declared.shape.Span.{Span}
 use Rattle.span.specs.declared.shape.Reach.{Reach}
 use Rattle.arithmetic.specs.Reaches.{difference, quotient, within}
@@ -8,10 +7,8 @@ use Rattle.span.specs.declared.region.Region.{Region}
 use Rattle.span.specs.Regions.{at}
 use Rattle.sheet.specs.declared.shape.Term.{Term as Written}
 use Rattle.sheet.specs.declared.shape.Row.{Row}
-use Rattle.sheet.specs.declared.shape.Bounds.TheVariants.{AtLeast}
-use Rattle.sheet.specs.declared.system.System.{System}
 use Rattle.enclosure.specs.declared.shape.Judgement.{Judgement}
-use Rattle.enclosure.specs.Rows.{Line, lines, own_terms, row_terms}
+use Rattle.enclosure.specs.Rows.{Line, lines_from, term}
 use Rattle.enclosure.specs.Judging.{judged_row}
 use Rattle.enclosure.specs.Plain.{plain_row}
 use Rattle.enclosure.proofs.Turns.{line_turn, lines_done}
@@ -46,34 +43,24 @@ module _ (l : Line) (n j : ℕ) (b : Region) (f : Region → Option Region) wher
   unfolding narrowed_from
   variables_done h = let k : n - j ≡ 0 = omega arith in rw k
 
--- what is read past the end of a list of rows
-abbrev blank : Row
-blank = record { bounds = AtLeast (pos 0); own = 0 }
+-- row r stands at i, and its terms first in what is left
+module _ (n : ℕ) (rows : List Row) (i : ℕ) (rest : List Written) (b : Region) where
+  module _ (r : Row) (own more : List Written) (er : r ≡ get_or rows i r) (h : i < length rows) (eo : own ≡ take r.own rest) (em : more ≡ drop r.own rest) where
+    turn : (F : List Line → Option Region) → F (line n r.bounds own ∷ lines_from n (drop (i + 1) rows) more) ≡ F (lines_from n (drop i rows) rest)
+    turn F = rw (eo, em) (sym (line_turn F n rows i r rest er h))
 
--- row i of a system
-abbrev pub line_at : System → ℕ → Line
-line_at s i = record { bounds = (get_or s.rows.now i blank).bounds; terms = row_terms s i }
+    pub row_turn : bind (narrowed_from (line n r.bounds own) n 0 b) (passed n (lines_from n (drop (i + 1) rows) more)) ≡ passed n (lines_from n (drop i rows) rest) b
+    unfolding passed
+    row_turn = turn (λ (ls : List Line). passed n ls b)
 
-pub line_is : (s : System) (n : ℕ) (rows : List Row) (i : ℕ) (d : Row) (ts : List Written) → n ≡ s.n → rows ≡ s.rows.now → i < length rows → ts ≡ own_terms s i → line n (get_or rows i d).bounds ts ≡ line_at s i
-line_is s n rows i d ts en er h et = (λ k. line (en k) (get_or rows i d).bounds (et k)) ∙ (λ k. line s.n (get_or_default rows i d blank h k).bounds (own_terms s i)) ∙ (λ k. line s.n (get_or (er k) i blank).bounds (own_terms s i))
+    pub test_turn : (whole : Reach) (j : Judgement) → whole ≡ plain_row b (map (term n) own) → j ≡ judged_row r.bounds whole → unless_broken j (tested (lines_from n (drop (i + 1) rows) more) b) ≡ tested (lines_from n (drop i rows) rest) b
+    unfolding tested
+    test_turn whole j ew ej = rw (ej, ew) (turn (λ (ls : List Line). tested ls b))
 
-module _ (s : System) (rows : List Row) (er : rows ≡ s.rows.now) (i : ℕ) (b : Region) where
-  pub row_turn : i < length rows → bind (narrowed_from (line_at s i) s.n 0 b) (passed s.n (drop (i + 1) (lines s))) ≡ passed s.n (drop i (lines s)) b
+  pub rows_done : length rows ≤ i → passed n (lines_from n (drop i rows) rest) b ≡ Some b
   unfolding passed
-  row_turn h = sym (line_turn (λ (ls : List Line). passed s.n ls b) s i blank (subst (λ (l : List Row). i < length l) er h))
+  rows_done h = lines_done (λ (ls : List Line). passed n ls b) n rows i rest h
 
-  pub rows_done : length rows ≤ i → passed s.n (drop i (lines s)) b ≡ Some b
-  unfolding passed
-  rows_done h = lines_done (λ (ls : List Line). passed s.n ls b) s i (subst (λ (l : List Row). length l ≤ i) er h)
-
-  -- ---- the row test
-  pub test_turn : (d : Row) (whole : Reach) (j : Judgement) → i < length rows → whole ≡ plain_row b (row_terms s i) → j ≡ judged_row (get_or rows i d).bounds whole
-      → unless_broken j (tested (drop (i + 1) (lines s)) b) ≡ tested (drop i (lines s)) b
+  pub tested_done : length rows ≤ i → tested (lines_from n (drop i rows) rest) b ≡ Some b
   unfolding tested
-  test_turn d whole j h ew ej =
-      ap (λ (k : Judgement). unless_broken k (tested (drop (i + 1) (lines s)) b)) (ej ∙ ap₂ judged_row (ap (λ (r : Row). r.bounds) (get_or_default rows i d blank h) ∙ ap (λ (l : List Row). (get_or l i blank).bounds) er) ew)
-      ∙ sym (line_turn (λ (ls : List Line). tested ls b) s i blank (subst (λ (l : List Row). i < length l) er h))
-
-  pub tested_done : length rows ≤ i → tested (drop i (lines s)) b ≡ Some b
-  unfolding tested
-  tested_done h = lines_done (λ (ls : List Line). tested ls b) s i (subst (λ (l : List Row). length l ≤ i) er h)
+  tested_done h = lines_done (λ (ls : List Line). tested ls b) n rows i rest h

@@ -5,7 +5,7 @@ ghost use Rattle.narrowing.specs.PassLaws.{pass_laws};
 use crate::parts::{aim, holds, remainder, slope};
 use arithmetic::reach;
 use contractor::contractor::Contractor;
-use enclosure::evaluate::{own_terms, total};
+use enclosure::evaluate::{parted, total};
 use sheet::shape::{Bounds, Term};
 use sheet::system::System;
 use span::region::Region;
@@ -48,16 +48,19 @@ impl Contractor for GaussSeidel {
     fn narrow(&self, system: &System, b: &Region) -> Option<Region> {
         let n = system.n();
         let rows = system.rows();
+        let mut rest = system.terms();
         let mut cur = *b;
         'pass: {
             for i in 0..rows.len() {
-                let own = own_terms(system, i);
+                let row = rows[i];
+                let (own, more) = parted(row.own, rest);
                 for j in 0..n {
-                    match narrow_at(n, rows[i].bounds, own, &cur, j) {
+                    match narrow_at(n, row.bounds, own, &cur, j) {
                         None => break 'pass None,
                         Some(c) => cur = c,
                     }
                 }
+                rest = more;
             }
             Some(cur)
         }

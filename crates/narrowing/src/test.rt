@@ -2,7 +2,7 @@ ghost use Rattle.narrowing.specs.Tests.{row_test};
 ghost use Rattle.narrowing.specs.PassLaws.{row_test_laws};
 
 use contractor::contractor::Contractor;
-use enclosure::evaluate::row;
+use enclosure::evaluate::{parted, total};
 use enclosure::judge::judge_row;
 use enclosure::shape::Judgement;
 use sheet::system::System;
@@ -20,10 +20,15 @@ impl Contractor for RowTest {
 
     fn narrow(&self, system: &System, b: &Region) -> Option<Region> {
         let inside = [0; 8];
+        let n = system.n();
         let rows = system.rows();
+        let mut rest = system.terms();
         for i in 0..rows.len() {
-            let whole = row::<Reach>(system, i, b, &inside);
-            match judge_row(rows[i].bounds, whole) {
+            let row = rows[i];
+            let (own, more) = parted(row.own, rest);
+            rest = more;
+            let whole = total::<Reach>(n, own, b, &inside);
+            match judge_row(row.bounds, whole) {
                 Judgement::Broken => return None,
                 Judgement::Met => {}
                 Judgement::Unsure => {}

@@ -1,7 +1,7 @@
 -- What taking and settling leads to: a list of lawful calls, of which the law holds, and less and less below the limit.
-use Rattle.std.proofs.Common.{◌≡◌, ℕ, zero, suc, ◌+◌, ◌-◌, ◌<◌, ◌≤◌, Bool, true, false, ltb, leb, List, [], ◌∷◌, ◌++◌, Some, None, Option, sym, refl, ap, ◌∙◌, subst, arith}
+use Rattle.std.proofs.Common.{◌≡◌, ℕ, zero, suc, ◌+◌, ◌-◌, ◌<◌, Bool, true, false, ltb, leb, List, [], ◌∷◌, ◌++◌, Some, None, Option, sym, refl, ap, ◌∙◌, subst, arith}
 use Rattle.std.proofs.lemmas.Bool.{ltb-true}
-use Rattle.std.specs.List.{AllByRecursion as All}
+use Rattle.std.specs.List.{AllByRecursion}
 use Rattle.std.proofs.ByRecursion.{All-append}
 use Rattle.span.specs.declared.region.Region.{Region}
 use Rattle.sheet.specs.declared.system.System.{System}
@@ -113,11 +113,11 @@ module _ (f : Narrowing) (r : Naming) (j : Judging) where
   stopped_settling s t u v number g a b c d = record { last = t; going = g; stops = at_settle a (d ∙ ap (λ (z : State). (step (settle f r j) z).0) b) (c ∙ ap (λ (z : State). (step (settle f r j) z).1) b) }
 
   -- ---- the calls were lawful
-  rounds_lawful : Lawful (settle f r j) → (k : ℕ) → All Lawful (rounds f r j k)
+  rounds_lawful : Lawful (settle f r j) → (k : ℕ) → AllByRecursion Lawful (rounds f r j k)
   rounds_lawful l zero = tt
   rounds_lawful l (suc k) = (tt, (l, rounds_lawful l k))
 
-  more : (s t u : State) (cs : List Call) → All Lawful cs → Going f r j s t → Lawful (settle f r j) → u ≡ after cs t → Reached s u
+  more : (s t u : State) (cs : List Call) → AllByRecursion Lawful cs → Going f r j s t → Lawful (settle f r j) → u ≡ after cs t → Reached s u
   more s t u cs h g l e = record {
     calls = rounds f r j g.made ++ cs;
     lawful = All-append Lawful (rounds f r j g.made) cs (rounds_lawful l g.made) h;

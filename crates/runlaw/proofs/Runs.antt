@@ -1,7 +1,7 @@
 -- The run's main theorem: what every call keeps, and what follows after any list of calls.
-use Rattle.std.proofs.Common.{◌≡◌, ℕ, zero, suc, ◌+◌, ◌-◌, ◌*◌, ◌<◌, ◌≤◌, Bool, true, false, cond, ltb, leb, ◌⊎◌, List, [], ◌∷◌, ◌++◌, length, IfSome, Some, None, Option, sym, refl, ap, ◌∙◌, subst, inl, inr, arith, length-append, lt-ltb, MatchOption}
+use Rattle.std.proofs.Common.{◌≡◌, ℕ, ◌+◌, ◌-◌, ◌*◌, ◌<◌, ◌≤◌, Bool, true, false, ltb, leb, ◌⊎◌, List, [], ◌∷◌, ◌++◌, length, IfSome, Some, None, Option, sym, refl, ◌∙◌, subst, inl, inr, arith, length-append, lt-ltb, MatchOption}
 use Rattle.std.proofs.lemmas.Bool.{leb-true}
-use Rattle.std.specs.List.{AllByRecursion as All}
+use Rattle.std.specs.List.{AllByRecursion}
 use Rattle.std.proofs.ByRecursion.{All-append, All-push}
 use Rattle.span.specs.declared.region.Region.{Region}
 use Rattle.sheet.specs.declared.system.System.{System}
@@ -13,7 +13,7 @@ use Rattle.runlaw.specs.declared.shape.Cause.TheVariants.{Small, Crowded}
 use Rattle.runlaw.specs.declared.shape.Outcome.{Outcome}
 use Rattle.runlaw.specs.declared.shape.Outcome.TheVariants.{Small as SMALL, Crowded as CROWDED}
 use Rattle.runlaw.specs.declared.shape.Verdict.TheVariants.{None as NONE}
-use Rattle.span.specs.Halves.{width, lower, upper}
+use Rattle.span.specs.Halves.{lower, upper}
 use Rattle.span.specs.Regions.{at, Narrower, lower_half, upper_half}
 use Rattle.runlaw.specs.Sizes.{size}
 use Rattle.enclosure.specs.Points.{Point, Lies}
@@ -45,11 +45,11 @@ Right s c = (x : Point) → Lies x c → Meets x s.system
 record Good (y : System) (b₀ : Region) (s : State) : Type 0 where
   same : s.system ≡ y
   tolerant : 1 ≤ s.tolerance
-  fit : All (Fit s) s.pending
+  fit : AllByRecursion (Fit s) s.pending
   held_fit : IfSome s.hand (Fit s)
   room : length s.pending + hands s.hand ≤ s.pending_places
   covers : (x : Point) → Lies x b₀ → Meets x s.system → Covers s x
-  right : All (Right s) s.feasible
+  right : AllByRecursion (Right s) s.feasible
   weighed : s.settled + (weights s.pending + held_weight s.hand) ≤ 2 * size b₀ - 1
 
 record Next (y : System) (b₀ : Region) (s : State) (r : State × Answer) : Type 0 where
@@ -65,7 +65,7 @@ cover_map s t x p h f u (undecided a) = u a
 -- a settle that is accepted: the held box b is spent
 done : (y : System) (b₀ : Region) (s : State) (b : Region) (p f : List Region) (u : List Filed)
     → Good y b₀ (moved s s.settled (Some b) s.pending s.feasible s.undecided)
-    → All (Fit s) p → length p ≤ s.pending_places → All (Right s) f
+    → AllByRecursion (Fit s) p → length p ≤ s.pending_places → AllByRecursion (Right s) f
     → ((x : Point) → Any (λ c. Lies x c) s.pending → Any (λ c. Lies x c) p)
     → ((x : Point) → Any (λ c. Lies x c) s.feasible → Any (λ c. Lies x c) f)
     → ((x : Point) → Any (λ q. Lies x q.region) s.undecided → Any (λ q. Lies x q.region) u)
@@ -218,7 +218,7 @@ record Then (y : System) (b₀ : Region) (s : State) (cs : List Call) : Type 0 w
   good : Good y b₀ (after cs s)
   count : (after cs s).settled ≡ s.settled + accepted cs s
 
-after_next : (y : System) (b₀ : Region) (s : State) (cs : List Call) → All Lawful cs → Good y b₀ s → Then y b₀ s cs
+after_next : (y : System) (b₀ : Region) (s : State) (cs : List Call) → AllByRecursion Lawful cs → Good y b₀ s → Then y b₀ s cs
 after_next y b₀ s [] l g = record { good = g; count = omega arith }
 after_next y b₀ s (c ∷ cs) l g =
     let n = step_next y b₀ s c l.0 g in
@@ -252,7 +252,7 @@ sound y b₀ s k g e =
     record {
       same = g.same;
       covered = covers;
-      met = subst (λ (z : System). All (λ c. (x : Point) → Lies x c → Meets x z) s.feasible) g.same g.right;
+      met = subst (λ (z : System). AllByRecursion (λ c. (x : Point) → Lies x c → Meets x z) s.feasible) g.same g.right;
       none = empty_of s;
       empty = empty_none s;
       without = λ v x i m. not_covered s x (empty_of s v) (covers x i m);

@@ -1,7 +1,7 @@
 -- Halves and narrowings: what they hold, and the products of their widths.
-use Rattle.std.proofs.Common.{◌≡◌, ℕ, zero, suc, ◌+◌, ◌-◌, ◌*◌, ◌<◌, ◌≤◌, max, true, false, ltb, ◌⊎◌, List, [], ◌∷◌, length, get_or, take, set, ℤ, pos, ◌+ℤ◌, ◌-ℤ◌, ◌*ℤ◌, ◌≤ℤ◌, ◌<ℤ◌, sym, refl, ap, ◌∙◌, subst, inl, inr, add-mul, mul-le-mul, mul-add, arith, get_or-set_other, get_or-set_same, le-ltb, lt-ltb}
+use Rattle.std.proofs.Common.{◌≡◌, ℕ, zero, suc, ◌+◌, ◌*◌, ◌<◌, ◌≤◌, max, ◌⊎◌, List, [], ◌∷◌, length, get_or, take, set, ℤ, pos, ◌+ℤ◌, ◌*ℤ◌, ◌≤ℤ◌, sym, ap, ◌∙◌, inl, inr, add-mul, mul-le-mul, mul-add, arith, get_or-set_other, get_or-set_same, lt-ltb}
 use native.Mathlib.Decide.{ℕ_discrete}
-use borrow.Author.Differences.{up, down, ints}
+use borrow.Author.Differences.{ints}
 use Rattle.std.proofs.lemmas.Int.{by_lt_z}
 use Rattle.span.specs.declared.shape.Span.{Span}
 use Rattle.span.specs.declared.region.Region.{Region}

@@ -1,6 +1,6 @@
 -- A run to the end: boxes are taken and settled until a call is refused.
 use Rattle.std.specs.Prelude.{◌≡◌, ℕ, zero, suc, List, [], ◌∷◌}
-use Rattle.std.specs.List.{AllByRecursion as All}
+use Rattle.std.specs.List.{AllByRecursion}
 use Rattle.contractor.specs.Laws.{Narrowing, Naming}
 use Rattle.runlaw.specs.Laws.{Judging}
 use Rattle.runlaw.specs.Steps.{State, Call, take, settle, ticket, refused, step, after, accepted, Lawful}
@@ -8,7 +8,7 @@ use Rattle.runlaw.specs.Steps.{State, Call, take, settle, ticket, refused, step,
 -- some list of lawful calls leads from s to t
 pub record Reached (s t : State) : Type 0 where
   pub calls : List Call
-  pub lawful : All Lawful calls
+  pub lawful : AllByRecursion Lawful calls
   pub leads : t ≡ after calls s
 
 module _ (f : Narrowing) (r : Naming) (j : Judging) where

@@ -1,6 +1,6 @@
 -- What holds of an opened run after any list of lawful calls.
 use Rattle.std.specs.Prelude.{◌≡◌, ℕ, ◌-◌, ◌*◌, ◌≤◌, ◌⊎◌, List, [], ◌∷◌, None, MatchOption}
-use Rattle.std.specs.List.{AllByRecursion as All}
+use Rattle.std.specs.List.{AllByRecursion}
 use Rattle.span.specs.declared.region.Region.{Region}
 use Rattle.sheet.specs.declared.system.System.{System}
 use Rattle.runlaw.specs.declared.shape.Verdict.TheVariants.{None as NONE}
@@ -34,7 +34,7 @@ pub record Sound (system : System) (b : Region) (s : State) (k : ℕ) : Type 0 w
   -- every point of the starting box that meets all rows lies in a box of the run
   pub covered : (x : Point) → Lies x b → Meets x system → Covers s x
   -- every point of every feasible box meets all rows
-  pub met : All (λ c. (x : Point) → Lies x c → Meets x system) s.feasible
+  pub met : AllByRecursion (λ c. (x : Point) → Lies x c → Meets x system) s.feasible
   -- the verdict is NONE exactly when no box is left, and then no point of the starting box meets all rows
   pub none : verdict_of s ≡ NONE → Empty s
   pub empty : Empty s → verdict_of s ≡ NONE
@@ -45,4 +45,4 @@ pub record Sound (system : System) (b : Region) (s : State) (k : ℕ) : Type 0 w
 
 -- at every moment: after any list of lawful calls
 abbrev pub Always : System → Region → State → Type 0
-Always system b s = (cs : List Call) → All Lawful cs → Sound system b (after cs s) (accepted cs s)
+Always system b s = (cs : List Call) → AllByRecursion Lawful cs → Sound system b (after cs s) (accepted cs s)

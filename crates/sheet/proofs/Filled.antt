@@ -1,6 +1,6 @@
 -- One more variable, row or term is held.
 use Rattle.std.proofs.Common.{◌≡◌, ℕ, zero, suc, ◌+◌, ◌-◌, ◌*◌, ◌<◌, ◌≤◌, List, [], ◌∷◌, ◌++◌, map, length, get_or, take, set, sym, refl, ap, ◌∙◌, arith, length-append, length-set}
-use Rattle.std.specs.List.{AllByRecursion as All}
+use Rattle.std.specs.List.{AllByRecursion}
 use Rattle.std.proofs.lemmas.List.{take_more_set, map-append, flat_map_more, append-nil, length-map, set_at, get_or_at, get_or-take, append_assoc, length-take-le}
 use Rattle.std.proofs.ByRecursion.{All-push}
 use Rattle.sheet.specs.declared.shape.Row.{Row}
@@ -17,11 +17,11 @@ pub total_push : (rs : List GivenRow) (r : GivenRow) → term_total (rs ++ r ∷
 total_push [] r = omega arith
 total_push (q ∷ rs) r = let e = total_push rs r in omega arith
 
-pub total_most : (rs : List GivenRow) → All (λ r. length r.terms ≤ 12) rs → term_total rs ≤ 12 * length rs
+pub total_most : (rs : List GivenRow) → AllByRecursion (λ r. length r.terms ≤ 12) rs → term_total rs ≤ 12 * length rs
 total_most [] h = omega arith
 total_most (q ∷ rs) h = let e = total_most rs h.1 in let f = h.0 in omega arith
 
-pub all_left : {A : Type 0} (P : A → Type 0) (xs ys : List A) → All P (xs ++ ys) → All P xs
+pub all_left : {A : Type 0} (P : A → Type 0) (xs ys : List A) → AllByRecursion P (xs ++ ys) → AllByRecursion P xs
 all_left P [] ys h = tt
 all_left P (x ∷ xs) ys h = (h.0, all_left P xs ys h.1)
 

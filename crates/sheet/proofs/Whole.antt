@@ -12,7 +12,7 @@ use Rattle.sheet.specs.Gathering.{HoldsAll, row_is}
 use Rattle.sheet.specs.Walk.{ContentSays}
 use Rattle.list.specs.Lists.{items, room, replaced}
 use Rattle.sheet.proofs.Filled.{total_most}
-use Rattle.std.specs.List.{AllByRecursion as All}
+use Rattle.std.specs.List.{AllByRecursion}
 use Rattle.std.proofs.lemmas.List.{length-take-le}
 use Rattle.std.proofs.ByRecursion.{All-from_get_or}
 use Rattle.format.specs.Theorem.{Byte}
@@ -89,10 +89,10 @@ module _ (s : Sheet) (xs : List ℕ) (r t : ℕ) where
       subst (λ x. SheetSays s u x (Ok tt)) (sym e)
       (record { n = n-is ∙ held.n; variables = (λ j. map variable_is (take (n-is j) (variables-is j))) ∙ held.variables; tolerance = tolerance-is ∙ f.all.tolerance; rows = ap (map row_is) rows_is ∙ held.rows; terms = ap (map term_is) terms_is ∙ held.terms; row_places = row_places; term_places = term_places })
 
-pub all_bytes : (xs : List ℕ) → ((i : ℕ) → Fits w8 (get_or xs i 0)) → All Byte xs
+pub all_bytes : (xs : List ℕ) → ((i : ℕ) → Fits w8 (get_or xs i 0)) → AllByRecursion Byte xs
 all_bytes xs h = All-from_get_or Byte xs 0 (λ i l. (h i).fits)
 
-pub means : (s t : Sheet) (xs : List ℕ) (r : Result (Unit {0}) SheetFault) → All Byte xs → SheetSays s t (read_sheet xs (room s.rows) (room s.terms)) r → Means s t xs r
+pub means : (s t : Sheet) (xs : List ℕ) (r : Result (Unit {0}) SheetFault) → AllByRecursion Byte xs → SheetSays s t (read_sheet xs (room s.rows) (room s.terms)) r → Means s t xs r
 means s t xs r b h = go (read_sheet xs (room s.rows) (room s.terms)) r refl h
   where
     go : (q : Result Content SheetFault) (a : Result (Unit {0}) SheetFault) → read_sheet xs (room s.rows) (room s.terms) ≡ q → SheetSays s t q a → Means s t xs a

@@ -1,6 +1,6 @@
 -- What the code has gathered, and the draft that it stands for.
 use Rattle.std.specs.Prelude.{◌≡◌, ℕ, ◌≤◌, List, [], map, length, take, Some, None, Ok, Err, Option, Result}
-use Rattle.std.specs.List.{AllByRecursion as All, flat_map}
+use Rattle.std.specs.List.{AllByRecursion, flat_map}
 use Rattle.format.specs.declared.fault.SheetFault.{SheetFault}
 use Rattle.sheet.specs.declared.shape.Row.{Row}
 use Rattle.sheet.specs.declared.gather.Gathered.{Gathered}
@@ -74,7 +74,7 @@ pub record Held (g : Gathered) (vs : List GivenVariable) (rs : List GivenRow) : 
   pub few_rows : length rs ≤ 16
   pub rows : map row_is (take g.rowcount g.rows) ≡ heads_of rs
   pub row_places : length g.rows ≡ 16
-  pub short : All (λ r. length r.terms ≤ 12) rs
+  pub short : AllByRecursion (λ r. length r.terms ≤ 12) rs
   pub termcount : g.termcount ≡ term_total rs
   pub terms : map term_is (take g.termcount g.terms) ≡ terms_of rs
   pub term_places : length g.terms ≡ 192

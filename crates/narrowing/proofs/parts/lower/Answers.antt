@@ -7,4 +7,8 @@ pub invariant_of-result : goal.invariant_of-result
 invariant_of-result c =
     let t = c.args.t.now in
     let f : SFits w32 t.coefficient = search rules in
-    (length-set t.exponents c.args.j _ ∙ t.whole, (rw (to_z-of_z w32 t.coefficient f) t.least, (let h = degree_lower c.args.j t.exponents in let k = t.small in omega arith, tt)))
+    record {
+      whole = length-set t.exponents c.args.j _ ∙ t.whole;
+      least = rw (to_z-of_z w32 t.coefficient f) t.least;
+      small = let h = degree_lower c.args.j t.exponents in let k = t.small in omega arith;
+    }
