@@ -51,7 +51,7 @@ fn push_accepted(out: &mut Vec<u8>, sheet: &Sheet, bytes: usize) -> Result<(), A
         terms: system.terms().len(),
         bytes,
     };
-    let line = accepted_line(out.allocator(), accepted)?;
+    let line = accepted_line(*out.allocator(), accepted)?;
     push_bytes(out, line.as_slice())?;
     push_text(out, "\n")
 }

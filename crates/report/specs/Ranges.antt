@@ -1,5 +1,5 @@
 -- The report of a run: the verdict, how many boxes were settled and why it stopped, then the feasible, undecided and pending boxes.
-use Rattle.std.specs.Prelude.{ℕ, List, [], ◌∷◌, ◌++◌, map, take, codes, decimal}
+use Rattle.std.specs.Prelude.{ℕ, List, [], ◌∷◌, ◌++◌, take, codes, decimal}
 use Rattle.std.specs.List.{flat_map}
 use Rattle.std.specs.Fmt.{signed_decimal}
 use Rattle.span.specs.declared.shape.Span.{Span}

@@ -1,5 +1,5 @@
 -- A run that was opened over places and taken to its end.
-use Rattle.std.proofs.Common.{◌≡◌, ℕ, Some, sym, subst}
+use Rattle.std.proofs.Common.{◌≡◌, ℕ, Some, subst}
 use Rattle.span.specs.declared.region.Region.{Region}
 use Rattle.sheet.specs.declared.system.System.{System}
 use Rattle.contractor.specs.Laws.{Narrowing, Naming}

@@ -1,5 +1,5 @@
 -- What a run that is opened and taken to its end promises: how it went, and the whole law of what it leaves.
-use Rattle.std.specs.Prelude.{◌≡◌, ℕ, Some, None, Option}
+use Rattle.std.specs.Prelude.{ℕ, Some, None, Option}
 use Rattle.span.specs.declared.region.Region.{Region}
 use Rattle.sheet.specs.declared.system.System.{System}
 use Rattle.contractor.specs.Laws.{Narrowing, Naming}

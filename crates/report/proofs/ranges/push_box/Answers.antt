@@ -1,4 +1,4 @@
-use Rattle.std.proofs.Common.{◌≡◌, ℕ, ◌-◌, List, ◌++◌, take, vec_items, ap, ◌∙◌, arith}
+use Rattle.std.proofs.Common.{◌≡◌, ℕ, ◌-◌, ◌++◌, take, vec_items, ap, ◌∙◌, arith}
 use Rattle.line.proofs.Growing.{two}
 use Rattle.report.specs.Ranges.{ranges_text}
 use Rattle.report.proofs.ranges.push_box.Goals as goal

@@ -1,4 +1,4 @@
-use Rattle.std.proofs.Common.{◌≡◌, ℕ, List, ◌++◌, vec_items, codes, ap, ◌∙◌}
+use Rattle.std.proofs.Common.{ℕ, List, ◌++◌, vec_items, codes, ap, ◌∙◌}
 use Rattle.sheet.specs.Held.{name_is}
 use Rattle.line.proofs.Growing.{three}
 use Rattle.report.specs.Ranges.{ends_text}

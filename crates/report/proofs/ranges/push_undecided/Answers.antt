@@ -1,4 +1,4 @@
-use Rattle.std.proofs.Common.{◌≡◌, ℕ, List, ◌++◌, vec_items, codes, ap, ◌∙◌}
+use Rattle.std.proofs.Common.{ℕ, List, ◌++◌, vec_items, codes, ap, ◌∙◌}
 use Rattle.line.proofs.Growing.{two}
 use Rattle.report.specs.Ranges.{box_text, cause_text}
 use Rattle.report.proofs.ranges.push_undecided.Goals as goal

@@ -1,4 +1,4 @@
-use Rattle.std.proofs.Common.{◌≡◌, ℕ, List, ◌++◌, vec_items, codes, ap, ◌∙◌}
+use Rattle.std.proofs.Common.{ℕ, List, ◌++◌, vec_items, codes, ap, ◌∙◌}
 use Rattle.line.proofs.Growing.{three}
 use Rattle.report.specs.Ranges.{head_line, boxes_lines, undecided_lines}
 use Rattle.report.proofs.ranges.ranges_report.Goals as goal

@@ -1,5 +1,4 @@
-use Rattle.std.proofs.Common.{◌≡◌, ℕ, ◌+◌, List, [], ◌∷◌, ◌++◌, length, vec_items, sym, ap, ◌∙◌, arith}
-use Rattle.enclosure.specs.declared.shape.NominalReach.{NominalReach}
+use Rattle.std.proofs.Common.{◌≡◌, ℕ, ◌+◌, List, [], ◌∷◌, ◌++◌, length, vec_items, ap, ◌∙◌, arith}
 use Rattle.line.proofs.Growing.{turn, done, two}
 use Rattle.report.specs.Rows.{row_line, nominal_of}
 use Rattle.report.proofs.Reporting.{lines_next, lines_end}

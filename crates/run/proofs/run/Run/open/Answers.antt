@@ -1,4 +1,4 @@
-use Rattle.std.proofs.Common.{◌≡◌, List, [], ◌∷◌, refl, ◌∙◌, rules}
+use Rattle.std.proofs.Common.{◌≡◌, [], ◌∷◌, refl, ◌∙◌, rules}
 use Rattle.list.specs.Lists.{items, room}
 use Rattle.list.proofs.Lists.{first_added}
 use Rattle.runlaw.proofs.Runs.{same_opened, always_from}
