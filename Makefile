@@ -2,14 +2,12 @@
 .PHONY: demo test
 
 demo:
-	rt check dump nominal ranges
 	@echo "--- the sheet's bytes, as they are filed"
-	@target/bin/dump < examples/beam.sheet
+	@tools/run dump < examples/beam.sheet
 	@echo "--- each row over the starting box, with the nominal dimensions inside"
-	@target/bin/nominal < examples/beam.sheet
+	@tools/run nominal < examples/beam.sheet
 	@echo "--- feasible (F) and undecided (U) ranges"
-	@target/bin/ranges < examples/beam.sheet
+	@tools/run ranges < examples/beam.sheet
 
 test:
-	tools/tickets
-	rt ci
+	tools/gate
