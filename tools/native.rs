@@ -1,6 +1,8 @@
 //! The rules of docs/ once more: sheet, listing, nominals, contractors and run, written apart
-//! from the proved code, from docs/ alone. It serves to compare with (tools/compare) and to
-//! measure against (tools/bench). Nothing is proved of it.
+//! from the proved code, from docs/ alone, to compare with and to measure against. No script of
+//! the repository does either yet. Nothing is proved of it.
+//!
+//!     rustc -O --edition 2024 tools/native.rs -o native
 //!
 //!     native ranges|nominal|dump|narrowings < SHEET
 //!

@@ -1,4 +1,4 @@
-"""Writes sheets (docs/SHEET.md) for tools/compare and tools/bench; it checks nothing, so it writes wrong ones too."""
+"""Writes sheets (docs/SHEET.md); it checks nothing, so it writes wrong ones too. No script uses it yet."""
 
 ONE = 65536
 LARGEST = 2147483647
