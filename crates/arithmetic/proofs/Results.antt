@@ -39,7 +39,7 @@ pub within_closed : (s : Span) (t : Reach) (u r : Span) → t ≡ Closed u → r
 within_closed s t u r e p q = rw e (made_closed r (int_max s.lo u.lo) (int_min s.hi u.hi) p q)
 
 -- ---- power 0 changes nothing, and power 1 is the span itself
-pub floor_exact : (w z : ℤ) → w ≡ z *ℤ pos 65536 → floor w 65536 ≡ z
+floor_exact : (w z : ℤ) → w ≡ z *ℤ pos 65536 → floor w 65536 ≡ z
 floor_exact (pos a) z e = omega (arith, ints)
 floor_exact (negsuc a) z e = omega (arith, ints)
 
@@ -49,24 +49,12 @@ ceil_exact w z e = let h = floor_exact (neg_ℤ w) (neg_ℤ z) (ap neg_ℤ e ∙
     negated : (z : ℤ) → neg_ℤ z *ℤ pos 65536 ≡ neg_ℤ (z *ℤ pos 65536)
     negated z = omega (arith, ints)
 
--- the four products of two pairs of ends, one of them twice 65536
-unit_ends : (s : Span) (p q r t : ℤ) → least p q r t ≡ s.lo *ℤ pos 65536 → greatest p q r t ≡ s.hi *ℤ pos 65536 → stretch (floor (least p q r t) 65536) (ceil (greatest p q r t) 65536) ≡ Closed s
-unit_ends s p q r t l g = sym (reach_closed s _ _ (sym (floor_exact _ s.lo l)) (sym (ceil_exact _ s.hi g)))
-
 product_one : (r : Reach) → product (Closed one) r ≡ r
 product_one Open = refl
 product_one (Closed s) = let o = s.ordered in
-    let a = pos 65536 *ℤ s.lo in
-    let b = pos 65536 *ℤ s.hi in
-    unit_ends s a b a b (omega (arith, ints, clamps)) (omega (arith, ints, clamps))
-
-pub one_power : (r s : Reach) → product r (power s 0) ≡ r
-unfolding power
-one_power Open s = refl
-one_power (Closed s) t = let o = s.ordered in
-    let a = s.lo *ℤ pos 65536 in
-    let b = s.hi *ℤ pos 65536 in
-    unit_ends s a a b b (omega (arith, ints, clamps)) (omega (arith, ints, clamps))
+    let l : least (pos 65536 *ℤ s.lo) (pos 65536 *ℤ s.hi) (pos 65536 *ℤ s.lo) (pos 65536 *ℤ s.hi) ≡ s.lo *ℤ pos 65536 = omega (arith, ints, clamps) in
+    let g : greatest (pos 65536 *ℤ s.lo) (pos 65536 *ℤ s.hi) (pos 65536 *ℤ s.lo) (pos 65536 *ℤ s.hi) ≡ s.hi *ℤ pos 65536 = omega (arith, ints, clamps) in
+    sym (reach_closed s _ _ (sym (floor_exact _ s.lo l)) (sym (ceil_exact _ s.hi g)))
 
 pub power_one : (r : Reach) → power r 1 ≡ r
 unfolding power

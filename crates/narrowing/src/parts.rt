@@ -4,7 +4,6 @@ ghost use Rattle.enclosure.specs.Plain.{plain_row};
 ghost use Rattle.narrowing.specs.Passes.{occurs, holding, others, target, crossing};
 
 use arithmetic::reach;
-use enclosure::enclosure::Enclosure;
 use enclosure::evaluate::term;
 use sheet::shape::{Bounds, Term};
 use span::region::Region;

@@ -5,7 +5,6 @@
 use anyhow::anyhow;
 use contractor::layers::{Then, Until};
 use contractor::rules::Widest;
-use enclosure::enclosure::Enclosure;
 use narrowing::pass::GaussSeidel;
 use narrowing::test::RowTest;
 use program::fault::{ProgramFault, RunFault, fault_line};

@@ -5,7 +5,6 @@
 
 use contractor::layers::{Then, Until};
 use contractor::rules::Widest;
-use enclosure::enclosure::Enclosure;
 use narrowing::pass::GaussSeidel;
 use narrowing::test::RowTest;
 use report::ranges::ranges_report;
