@@ -1,7 +1,7 @@
 -- Single values of the definitions.
 use Rattle.std.specs.Prelude.{◌≡◌, pos, negsuc, Some}
 use Rattle.span.specs.declared.shape.Span.{Span}
-use Rattle.span.specs.declared.shape.Reach.{Reach}
+use Rattle.span.specs.Reached.{Reach}
 use Rattle.span.specs.declared.shape.Reach.TheVariants.{Open, Closed}
 use Rattle.span.specs.Making.{made}
 use Rattle.arithmetic.specs.Reaches.{stretch, sum, product, power, quotient}

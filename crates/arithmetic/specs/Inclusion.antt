@@ -12,7 +12,7 @@ use Rattle.numbers.specs.Ends as E
 use Rattle.numbers.proofs.Ends as S
 use Rattle.numbers.proofs.Laws as L
 use Rattle.span.specs.declared.shape.Span.{Span}
-use Rattle.span.specs.declared.shape.Reach.{Reach}
+use Rattle.span.specs.Reached.{Reach}
 use Rattle.span.specs.declared.shape.Reach.TheVariants.{Open, Closed}
 use Rattle.span.specs.Making.{Fit, fit?, making}
 use Rattle.rounding.specs.Sides.{Side, side, above, below, around}

@@ -9,7 +9,7 @@ use Rattle.span.specs.Making.{Fit, fit?, closed, made}
 use Rattle.span.specs.Holding.{ends}
 use Rattle.rounding.specs.Sides.{Side, side, above, below, around}
 use Rattle.span.specs.declared.shape.Span.{Span}
-use Rattle.span.specs.declared.shape.Reach.{Reach}
+use Rattle.span.specs.Reached.{Reach}
 use Rattle.span.specs.declared.shape.Reach.TheVariants.{Open, Closed}
 
 -- the reach between two ends: open if they are not the ends of a closed span

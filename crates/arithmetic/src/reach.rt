@@ -18,6 +18,7 @@ fn ends_fit(lo: i64, hi: i64) -> bool
 pub fn between(lo: i64, hi: i64) -> Reach
     ensures { result ≡ stretch lo hi }
 {
+    // `i32::try_from` and `Span::new` were tried in place of the test and the casts: that proof did not close
     if ends_fit(lo, hi) {
         Reach::Closed(Span {
             lo: lo as i32,
@@ -28,21 +29,20 @@ pub fn between(lo: i64, hi: i64) -> Reach
     }
 }
 
+// The same, of the two ends as a pair.
+fn reach(ends: (i64, i64)) -> Reach
+    ensures { result ≡ stretch ends.0 ends.1 }
+{
+    let (lo, hi) = ends;
+    between(lo, hi)
+}
+
 /// [a, b] + [c, d] is [a + c, b + d]; an open operand gives open.
 pub fn sum(s: Reach, t: Reach) -> Reach
     ensures answer { result ≡ sum s t }
     ensures holds { Proved SumHolds sum_holds }
 {
-    match s {
-        Reach::Open => Reach::Open,
-        Reach::Closed(a) => match t {
-            Reach::Open => Reach::Open,
-            Reach::Closed(b) => {
-                let (lo, hi) = sum_ends(a, b);
-                between(lo, hi)
-            }
-        },
-    }
+    s.both(t, |a, b| reach(sum_ends(a, b)))
 }
 
 /// [a, b] − [c, d] is [a − d, b − c]; an open operand gives open.
@@ -50,16 +50,7 @@ pub fn difference(s: Reach, t: Reach) -> Reach
     ensures answer { result ≡ difference s t }
     ensures holds { Proved DifferenceHolds difference_holds }
 {
-    match s {
-        Reach::Open => Reach::Open,
-        Reach::Closed(a) => match t {
-            Reach::Open => Reach::Open,
-            Reach::Closed(b) => {
-                let (lo, hi) = difference_ends(a, b);
-                between(lo, hi)
-            }
-        },
-    }
+    s.both(t, |a, b| reach(difference_ends(a, b)))
 }
 
 /// From the least product of two ends, rounded down, to the greatest, rounded up; an open operand gives open.
@@ -67,16 +58,7 @@ pub fn product(s: Reach, t: Reach) -> Reach
     ensures answer { result ≡ product s t }
     ensures holds { Proved ProductHolds product_holds }
 {
-    match s {
-        Reach::Open => Reach::Open,
-        Reach::Closed(a) => match t {
-            Reach::Open => Reach::Open,
-            Reach::Closed(b) => {
-                let (lo, hi) = product_ends(a, b);
-                between(lo, hi)
-            }
-        },
-    }
+    s.both(t, |a, b| reach(product_ends(a, b)))
 }
 
 /// Power 0 is [65536, 65536], of an open span too; power k + 1 is the product of power k and the span.
@@ -88,7 +70,7 @@ pub fn power(r: Reach, k: u8) -> Reach
         return between(65536, 65536);
     }
     let mut all = r;
-    for i in 1..k {
+    for _i in 1..k {
         all = product(all, r);
     }
     all
@@ -99,16 +81,7 @@ pub fn quotient(s: Reach, t: Reach) -> Reach
     ensures answer { result ≡ quotient s t }
     ensures holds { Proved QuotientHolds quotient_holds }
 {
-    match s {
-        Reach::Open => Reach::Open,
-        Reach::Closed(a) => match t {
-            Reach::Open => Reach::Open,
-            Reach::Closed(b) => match quotient_ends(a, b) {
-                None => Reach::Open,
-                Some((lo, hi)) => between(lo, hi),
-            },
-        },
-    }
+    s.both(t, |a, b| quotient_ends(a, b).map_or(Reach::Open, reach))
 }
 
 /// The part of a span that a result holds too, none if that is empty; open leaves the whole.
@@ -118,15 +91,7 @@ pub fn within(s: Span, r: Reach) -> Option<Span>
 {
     match r {
         Reach::Open => Some(s),
-        Reach::Closed(u) => {
-            let lo = s.lo.max(u.lo);
-            let hi = s.hi.min(u.hi);
-            if lo <= hi {
-                Some(Span { lo, hi })
-            } else {
-                None
-            }
-        }
+        Reach::Closed(u) => Span::new(s.lo.max(u.lo), s.hi.min(u.hi)),
     }
 }
 
@@ -137,9 +102,6 @@ pub fn meet(s: Reach, t: Reach) -> Option<Reach>
 {
     match s {
         Reach::Open => Some(t),
-        Reach::Closed(a) => match within(a, t) {
-            None => None,
-            Some(u) => Some(Reach::Closed(u)),
-        },
+        Reach::Closed(a) => within(a, t).map(Reach::Closed),
     }
 }

@@ -1,13 +1,15 @@
 -- One round of a repeated contractor, and one turn of each splitting rule's loop.
-use Rattle.std.proofs.Common.{◌≡◌, ℕ, zero, suc, ◌+◌, ◌-◌, ◌<◌, ◌≤◌, Bool, true, false, cond, ltb, Some, None, sym, refl, ap, ◌∙◌, add-one, arith, le-ltb, lt-ltb}
+use Rattle.std.proofs.Common.{◌≡◌, ℕ, zero, suc, ◌+◌, ◌-◌, ◌<◌, ◌≤◌, List, [], ◌∷◌, length, get_or, take, length-take-le, get_or-take, Bool, true, false, cond, ltb, Some, None, sym, refl, ap, ◌∙◌, add-one, arith, le-ltb, lt-ltb}
 use Rattle.span.specs.declared.region.Region.{Region}
 use Rattle.span.specs.Halves.{width}
-use Rattle.span.specs.Regions.{at}
+use Rattle.std.specs.List.{position_from}
+use Rattle.span.specs.declared.shape.Span.{Span}
+use Rattle.span.specs.Regions.{nought, at}
 use Rattle.sheet.specs.declared.system.System.{System}
 use Rattle.contractor.specs.Laws.{Narrowing}
 use Rattle.contractor.specs.Same.{same?}
 use Rattle.contractor.specs.Layers.{until, unless_same}
-use Rattle.contractor.specs.Rules.{first_from, widest_from, widest, TieBroken}
+use Rattle.contractor.specs.Rules.{first_from, first_of, widest_from, widest, TieBroken}
 
 module _ (f : Narrowing) (s : System) (b : Region) where
   pub until_none : (j : ℕ) → 1 ≤ j → None ≡ f s b → until j f s b ≡ None
@@ -37,18 +39,19 @@ unfolding until
 until_done j f s b e = rw e
 
 -- ---- the first
-module _ (t : ℕ) (b : Region) (n i w : ℕ) (e : w ≡ width (at b i)) where
-  pub first_found : i < n → t < w → first_from t b (n - i) i ≡ Some i
-  unfolding first_from
-  first_found h l = let k : n - i ≡ suc (n - (i + 1)) = omega arith in rw (k, lt-ltb t (width (at b i)) (rw (← e) l))
-
-  pub first_passed : i < n → w ≤ t → first_from t b (n - i) i ≡ first_from t b (n - (i + 1)) (i + 1)
-  unfolding first_from
-  first_passed h l = let k : n - i ≡ suc (n - (i + 1)) = omega arith in rw (k, le-ltb t (width (at b i)) (rw (← e) l), add-one)
-
-pub first_done : (t : ℕ) (b : Region) (n i : ℕ) → n ≤ i → first_from t b (n - i) i ≡ None
+-- a search through spans that are those of the variables from i on
+found_from : (t : ℕ) (b : Region) (ss : List Span) (i : ℕ) → ((j : ℕ) → j < length ss → get_or ss j nought ≡ at b (i + j)) → position_from (λ s. ltb t (width s)) i ss ≡ first_from t b (length ss) i
 unfolding first_from
-first_done t b n i h = let k : n - i ≡ 0 = omega arith in rw k
+found_from t b [] i h = refl
+found_from t b (s ∷ ss) i h =
+    let e : s ≡ at b i = h 0 (omega arith) ∙ ap (at b) (omega arith) in
+    let more : position_from (λ s. ltb t (width s)) (i + 1) ss ≡ first_from t b (length ss) (suc i) = found_from t b ss (i + 1) (λ j l. h (suc j) (omega arith) ∙ ap (at b) (omega arith)) ∙ ap (first_from t b (length ss)) (add-one i) in
+    rw (e, more) refl
+
+pub first_found : (t : ℕ) (b : Region) → position_from (λ s. ltb t (width s)) 0 (take b.n b.spans) ≡ first_of b t
+first_found t b =
+    let l : length (take b.n b.spans) ≡ b.n = length-take-le b.n b.spans (let f = b.few in let w = b.whole in omega arith) in
+    found_from t b (take b.n b.spans) 0 (λ j h. get_or-take b.n b.spans j nought (omega arith) ∙ ap (at b) (omega arith)) ∙ ap (λ (k : ℕ). first_from t b k 0) l
 
 -- ---- the widest
 module _ (b : Region) (n i best v w : ℕ) (ev : v ≡ width (at b best)) (ew : w ≡ width (at b i)) where

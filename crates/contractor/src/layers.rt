@@ -5,8 +5,8 @@ use crate::contractor::Contractor;
 use sheet::system::System;
 use span::region::Region;
 
-// One contractor after another.
-#[derive(Drop)]
+/// One contractor after another.
+#[derive(Clone, Debug, Drop)]
 pub struct Then<A, B> {
     pub first: A,
     pub second: B,
@@ -18,10 +18,8 @@ impl<A: Contractor, B: Contractor> Contractor for Then<A, B> {
     ghost laws = { λ t. then_laws (A.Contractor.laws t.first) (B.Contractor.laws t.second) };
 
     fn narrow(&self, system: &System, b: &Region) -> Option<Region> {
-        match self.first.narrow(system, b) {
-            None => None,
-            Some(c) => self.second.narrow(system, &c),
-        }
+        let c = self.first.narrow(system, b)?;
+        self.second.narrow(system, &c)
     }
 }
 
@@ -32,8 +30,8 @@ pub fn rounds(k: u8) -> u8
     k.clamp(1, 16)
 }
 
-// A contractor again and again: up to `most` times, stopping at none or at a round that leaves the box as it was.
-#[derive(Drop)]
+/// A contractor again and again: up to `most` times, stopping at none or at a round that leaves the box as it was.
+#[derive(Clone, Debug, Drop)]
 pub struct Until<A> {
     pub inner: A,
     pub most: u8,
@@ -47,16 +45,12 @@ impl<A: Contractor> Contractor for Until<A> {
     fn narrow(&self, system: &System, b: &Region) -> Option<Region> {
         let k = rounds(self.most);
         let mut cur = *b;
-        for i in 0..k {
-            match self.inner.narrow(system, &cur) {
-                None => return None,
-                Some(c) => {
-                    if c.same(&cur) {
-                        return Some(c);
-                    }
-                    cur = c;
-                }
+        for _i in 0..k {
+            let c = self.inner.narrow(system, &cur)?;
+            if c.same(&cur) {
+                return Some(c);
             }
+            cur = c;
         }
         Some(cur)
     }

@@ -11,8 +11,8 @@ pub fn widest_variable(b: &Region) -> usize
     ensures tie { TieBroken }
 {
     let mut best = 0;
-    for i in 0..b.n {
-        if b.spans[i].width() > b.spans[best].width() {
+    for (i, s) in b.spans[..b.n].iter().enumerate() {
+        if s.width() > b.spans[best].width() {
             best = i;
         }
     }
@@ -24,16 +24,11 @@ pub fn first_wider(b: &Region, tolerance: u32) -> Option<usize>
     ensures answer { result ≡ first_of b.now tolerance }
     ensures is { FirstIs }
 {
-    for j in 0..b.n {
-        if b.spans[j].width() > tolerance {
-            return Some(j);
-        }
-    }
-    None
+    b.spans[..b.n].iter().position(|s| s.width() > tolerance)
 }
 
-// Names the widest variable.
-#[derive(Drop)]
+/// Names the widest variable.
+#[derive(Clone, Copy, Debug)]
 pub struct Widest;
 
 impl SplittingRule for Widest {
@@ -43,16 +38,12 @@ impl SplittingRule for Widest {
 
     fn name(&self, b: &Region, tolerance: u32) -> Option<usize> {
         let best = widest_variable(b);
-        if b.spans[best].width() > tolerance {
-            Some(best)
-        } else {
-            None
-        }
+        (b.spans[best].width() > tolerance).then_some(best)
     }
 }
 
-// Names the first variable that is wide enough.
-#[derive(Drop)]
+/// Names the first variable that is wide enough.
+#[derive(Clone, Copy, Debug)]
 pub struct First;
 
 impl SplittingRule for First {

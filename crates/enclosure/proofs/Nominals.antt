@@ -8,15 +8,15 @@ use Rattle.numbers.specs.Rounding.{floor}
 use Rattle.numbers.specs.Ends.{Ends, only}
 use Rattle.numbers.specs.Ends as E
 use Rattle.span.specs.declared.shape.Span.{Span}
-use Rattle.span.specs.declared.shape.Reach.{Reach}
+use Rattle.span.specs.Reached.{Reach}
 use Rattle.span.specs.declared.shape.Reach.TheVariants as R
 use Rattle.span.specs.Making.{Fit, fit?}
 use Rattle.span.specs.Holding.{ends}
 use Rattle.arithmetic.specs.Reaches.{reached, reach, sum, product, one, stretch}
 use Rattle.arithmetic.proofs.Results.{reach_closed}
 use Rattle.enclosure.specs.declared.shape.NominalSpan.{NominalSpan}
-use Rattle.enclosure.specs.declared.shape.NominalReach.{NominalReach}
-use Rattle.enclosure.specs.declared.shape.NominalReach.TheVariants.{Open, Closed}
+use Rattle.enclosure.specs.Results.{NominalReach}
+use Rattle.span.specs.declared.shape.Reach.TheVariants.{Open, Closed}
 use Rattle.enclosure.specs.Between.{Amid, product_amid, sum_amid, brought}
 use Rattle.enclosure.specs.Plain.{plain_number}
 use Rattle.enclosure.specs.Nominals.{fitted, amid, nominal_number, nominal_variable, nominal_sum, nominal_product, nominal_power, nominal_span, nominal_at, nominal_in, Around, number_span, sum_span, product_span}

@@ -1,7 +1,7 @@
 -- One turn of each loop of the evaluator and of the judgement.
-use Rattle.std.proofs.Common.{◌≡◌, ℕ, suc, ◌+◌, ◌-◌, ◌<◌, ◌≤◌, min, List, [], ◌∷◌, map, length, get_or, take, drop, ℤ, sym, refl, ap, ◌∙◌, add-one, arith, drop_of_length-le, length-take, take_all, drop-cons, get_or-take}
+use Rattle.std.proofs.Common.{◌≡◌, ℕ, suc, ◌+◌, ◌<◌, ◌≤◌, min, List, [], ◌∷◌, map, length, get_or, take, drop, ℤ, sym, refl, ap, ◌∙◌, add-one, arith, drop_of_length-le, length-take, take_all, drop-cons, get_or-take}
 use native.Mathlib.Decide.{dec_le}
-use Rattle.span.specs.declared.shape.Reach.{Reach}
+use Rattle.span.specs.Reached.{Reach}
 use Rattle.sheet.specs.declared.shape.Row.{Row}
 use Rattle.span.specs.declared.region.Region.{Region}
 use Rattle.enclosure.specs.declared.shape.Judgement.{Judgement}
@@ -10,7 +10,14 @@ use Rattle.enclosure.specs.declared.enclosure.Enclosure.{Ghosts}
 use Rattle.enclosure.specs.Judging.{joined, judged_row}
 use Rattle.enclosure.specs.Evaluation.{enclosed, judged}
 use Rattle.sheet.specs.declared.shape.Term.{Term as Written}
-use Rattle.enclosure.specs.Rows.{Ops, factors, term_of, terms_from, Line, term, lines_from, own}
+use Rattle.sheet.specs.declared.system.System.{System}
+use Rattle.enclosure.specs.declared.lines.Lines.{Lines}
+use Rattle.enclosure.specs.declared.lines.Line.{Line as Taken}
+use Rattle.enclosure.specs.Lines.{Part, parts, told, left}
+use Rattle.std.specs.List.{slice_get}
+use Rattle.std.specs.Prelude.{Option, Some, None, MatchOption, option_map}
+use Prim.Native.Nat as Nat
+use Rattle.enclosure.specs.Rows.{Ops, factors, term_of, terms_from, Line, term, lines_from, lines, own}
 
 module _ {X : Type 0} (O : Ops X) (v : ℕ → X) where
   pub factors_turn : (a : X) (n i : ℕ) (es : List ℕ) → i < n → i < length es → factors O v a i (drop i (take n es)) ≡ factors O v (O.times a (O.power (v i) (get_or es i 0))) (i + 1) (drop (i + 1) (take n es))
@@ -63,39 +70,43 @@ drop_least n xs = by (dec_le n (length xs))
     by (yes h) = ap (λ (k : ℕ). drop k xs) (omega arith)
     by (no k) = let h : length xs ≤ n = omega arith in let e : min n (length xs) ≡ length xs = omega arith in rw e (drop_of_length-le xs (omega arith) ∙ sym (drop_of_length-le xs h))
 
--- ---- the rows of a system, one after another: what is left from row i on is row i, and what is left behind it
-pub line_turn : {Y : Type 0} (F : List Line → Y) (n : ℕ) (rows : List Row) (i : ℕ) (r : Row) (rest : List Written) → r ≡ get_or rows i r → i < length rows
-    → F (lines_from n (drop i rows) rest) ≡ F (record { bounds = r.bounds; terms = map (term n) (take r.own rest) } ∷ lines_from n (drop (i + 1) rows) (drop r.own rest))
+-- ---- the rows of a system, one after another
+-- a part as a row with its exponents of n variables
+abbrev pub lined : ℕ → Part → Line
+lined n p = record { bounds = p.0; terms = map (term n) p.1 }
+
+pub lines_parts : (n : ℕ) (rows : List Row) (ts : List Written) → lines_from n rows ts ≡ map (lined n) (parts rows ts)
 unfolding lines_from
-line_turn F n rows i r rest e h = ap (λ (rs : List Row). F (lines_from n rs rest)) (drop-cons rows i r h ∙ ap (λ (q : Row). q ∷ drop (suc i) rows) (sym e)) ∙ rw add-one
+lines_parts n [] ts = refl
+lines_parts n (r ∷ rs) ts = ap (λ (ls : List Line). lined n (r.bounds, take r.own ts) ∷ ls) (lines_parts n rs (drop r.own ts))
 
-pub lines_done : {Y : Type 0} (F : List Line → Y) (n : ℕ) (rows : List Row) (i : ℕ) (rest : List Written) → length rows ≤ i → F (lines_from n (drop i rows) rest) ≡ F []
-unfolding lines_from
-lines_done F n rows i rest h = ap (λ (rs : List Row). F (lines_from n rs rest)) (drop_of_length-le rows h)
+-- the terms of a part, none where there is no part
+abbrev pub terms_in : Option Part → List Written
+terms_in None = []
+terms_in (Some p) = p.1
 
--- one turn of the search for the terms of a row
-pub own_there : (rows : List Row) (k : ℕ) (d : Row) (rest : List Written) → k < length rows → own (drop k rows) rest 0 ≡ take (get_or rows k d).own rest
+pub own_part : (rows : List Row) (ts : List Written) (i : ℕ) → own rows ts i ≡ terms_in (slice_get (parts rows ts) i)
 unfolding own
-own_there rows k d rest h = ap (λ (l : List Row). own l rest 0) (drop-cons rows k d h)
+own_part [] ts i = refl
+own_part (r ∷ rs) ts Nat.zero = refl
+own_part (r ∷ rs) ts (suc i) = own_part rs (drop r.own ts) i
 
-pub own_further : (rows : List Row) (k i : ℕ) (d : Row) (rest : List Written) → k < length rows → k < i → own (drop k rows) rest (i - k) ≡ own (drop (k + 1) rows) (drop (get_or rows k d).own rest) (i - (k + 1))
-unfolding own
-own_further rows k i d rest h l =
-    let e : i - k ≡ suc (i - (k + 1)) = omega arith in
-    rw e (ap (λ (m : List Row). own m rest (suc (i - (k + 1)))) (drop-cons rows k d h) ∙ rw add-one)
+pub terms_told : (r : Option Taken) (ts : List Written) → MatchOption r (ts ≡ []) (λ l. ts ≡ l.terms.now) → ts ≡ terms_in (option_map told r)
+terms_told None ts h = h
+terms_told (Some l) ts h = h
 
-pub own_none : (rows : List Row) (k i : ℕ) (rest : List Written) → length rows ≤ k → own (drop k rows) rest i ≡ []
-unfolding own
-own_none rows k i rest h = ap (λ (l : List Row). own l rest i) (drop_of_length-le rows h)
+-- the parts that are still to come are the rows of the system at first
+pub lines_left : (n : ℕ) (l : Lines) (s : System) → n ≡ s.n → l.rows.now ≡ s.rows.now → l.terms.now ≡ s.terms.now → map (lined n) (left l) ≡ lines s
+lines_left n l s e r t = rw (e, r, t) (sym (lines_parts s.n s.rows.now s.terms.now))
 
 module _ {X : Type 0} (E : Ghosts X) (b : Region) (inside : ℕ → ℤ) where
   -- one turn of the judgement, over what its calls gave
-  pub judge_turn : (n : ℕ) (rows : List Row) (i : ℕ) (w : Row) (rest own more : List Written) (a : Judgement) (r : X) (p : Reach) (j k : Judgement) → w ≡ get_or rows i w → i < length rows
-      → own ≡ take w.own rest → more ≡ drop w.own rest → r ≡ enclosed E b inside (map (term n) own) → p ≡ E.spanned r → j ≡ judged_row w.bounds p → k ≡ joined a j
-      → joined k (judged E b inside (lines_from n (drop (i + 1) rows) more)) ≡ joined a (judged E b inside (lines_from n (drop i rows) rest))
+  pub judge_turn : (n : ℕ) (p : Part) (all : List Part) (rest : List Part) (a : Judgement) (r : X) (q : Reach) (j k : Judgement) → all ≡ p ∷ rest
+      → r ≡ enclosed E b inside (map (term n) p.1) → q ≡ E.spanned r → j ≡ judged_row p.0 q → k ≡ joined a j
+      → joined k (judged E b inside (map (lined n) rest)) ≡ joined a (judged E b inside (map (lined n) all))
   unfolding judged
-  judge_turn n rows i w rest own more a r p j k e h eo em er ep ej ek = rw (ek, ej, ep, er, eo, em) (joined_assoc a _ _ ∙ sym (line_turn (λ (ls : List Line). joined a (judged E b inside ls)) n rows i w rest e h))
+  judge_turn n p all rest a r q j k e er eq ej ek = rw (ek, ej, eq, er, e) (joined_assoc a _ _)
 
-  pub judged_done : (n : ℕ) (rows : List Row) (i : ℕ) (rest : List Written) (a : Judgement) → length rows ≤ i → joined a (judged E b inside (lines_from n (drop i rows) rest)) ≡ a
+  pub judged_done : (n : ℕ) (rest : List Part) (a : Judgement) → rest ≡ [] → joined a (judged E b inside (map (lined n) rest)) ≡ a
   unfolding judged
-  judged_done n rows i rest a h = lines_done (λ (ls : List Line). joined a (judged E b inside ls)) n rows i rest h ∙ joined_met a
+  judged_done n rest a e = rw e (joined_met a)

@@ -1,7 +1,7 @@
 -- What a reach says of a row, and what the rows say of a system.
 use Rattle.std.specs.Prelude.{ℤ}
 use Rattle.span.specs.declared.shape.Span.{Span}
-use Rattle.span.specs.declared.shape.Reach.{Reach}
+use Rattle.span.specs.Reached.{Reach}
 use Rattle.span.specs.declared.shape.Reach.TheVariants.{Open, Closed}
 use Rattle.span.specs.Making.{at_most?}
 use Rattle.sheet.specs.declared.shape.Bounds.{Bounds}

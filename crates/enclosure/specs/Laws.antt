@@ -3,7 +3,7 @@ use Rattle.std.specs.Prelude.{ℕ, ℤ}
 use Rattle.numbers.specs.Numbers.{Numbers}
 use Rattle.numbers.specs.Values as V
 use Rattle.span.specs.declared.shape.Span.{Span}
-use Rattle.span.specs.declared.shape.Reach.{Reach}
+use Rattle.span.specs.Reached.{Reach}
 use Rattle.span.specs.Holding.{Held, Within}
 
 pub record EnclosureLaws {X : Type 0} (number : ℤ → X) (variable : ℕ → Span → ℤ → X) (plus times : X → X → X) (power : X → ℕ → X) (span : X → Reach) (holds : (N : Numbers) → X → (ℕ → N.carrier) → N.carrier → Type 0) : Type 1 where

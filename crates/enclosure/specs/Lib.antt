@@ -1,3 +1,5 @@
+pub mod Results
+pub mod Lines
 pub mod Rows
 pub mod Judging
 pub mod Laws

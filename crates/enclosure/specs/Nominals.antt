@@ -8,15 +8,15 @@ use Rattle.numbers.specs.Rounding.{floor}
 use Rattle.numbers.specs.Ends.{Ends, only}
 use Rattle.numbers.specs.Ends as E
 use Rattle.span.specs.declared.shape.Span.{Span}
-use Rattle.span.specs.declared.shape.Reach.{Reach}
+use Rattle.span.specs.Reached.{Reach}
 use Rattle.span.specs.declared.shape.Reach.TheVariants as R
 use Rattle.span.specs.Making.{Fit, fit?, closed}
 use Rattle.span.specs.Holding.{ends}
 use Rattle.arithmetic.specs.Reaches.{stretch, reached, sum, product, power, one}
 use Rattle.span.specs.Holding.{Held}
 use Rattle.enclosure.specs.declared.shape.NominalSpan.{NominalSpan}
-use Rattle.enclosure.specs.declared.shape.NominalReach.{NominalReach}
-use Rattle.enclosure.specs.declared.shape.NominalReach.TheVariants.{Open, Closed}
+use Rattle.enclosure.specs.Results.{NominalReach}
+use Rattle.span.specs.declared.shape.Reach.TheVariants.{Open, Closed}
 use Rattle.enclosure.specs.Between.{Amid, product_amid, sum_amid, brought, brought_above, brought_under}
 use Rattle.enclosure.specs.Laws.{EnclosureLaws}
 use Rattle.enclosure.specs.Plain.{plain_number, plain_laws}

@@ -4,7 +4,7 @@ use Rattle.numbers.specs.Numbers.{Numbers}
 use Rattle.numbers.specs.Rows.{Term}
 use Rattle.numbers.specs.Ends.{only}
 use Rattle.span.specs.declared.shape.Span.{Span}
-use Rattle.span.specs.declared.shape.Reach.{Reach}
+use Rattle.span.specs.Reached.{Reach}
 use Rattle.span.specs.declared.shape.Reach.TheVariants.{Closed}
 use Rattle.arithmetic.specs.Reaches.{reach, sum, product, power}
 use Rattle.span.specs.Holding.{Held}

@@ -7,7 +7,7 @@ use Rattle.numbers.specs.Rows.{Term}
 use Rattle.numbers.proofs.Laws as L
 use Rattle.numbers.proofs.Ends as S
 use Rattle.span.specs.declared.shape.Span.{Span}
-use Rattle.span.specs.declared.shape.Reach.{Reach}
+use Rattle.span.specs.Reached.{Reach}
 use Rattle.span.specs.declared.shape.Reach.TheVariants.{Open, Closed}
 use Rattle.span.specs.Making.{at_most?}
 use Rattle.arithmetic.specs.Reaches.{sum, product, power}
@@ -25,7 +25,7 @@ use Rattle.span.specs.Regions.{at, In}
 use Rattle.enclosure.specs.Rows.{Ops, factors, term_of, terms_from, row_of, Line, lines, term, lines_from, own_terms, row_terms, values, value, Meets, MeetsAll}
 use Rattle.enclosure.specs.Judging.{judgement, joined, at_least, at_most, judged_row}
 use Rattle.enclosure.specs.Plain.{plain, plain_row, plain_laws}
-use Rattle.enclosure.specs.declared.shape.NominalReach.{NominalReach}
+use Rattle.enclosure.specs.Results.{NominalReach}
 use Rattle.enclosure.specs.Nominals.{nominal_number, nominal_variable, nominal_sum, nominal_product, nominal_power, nominal_span, number_span, sum_span, product_span, power_span}
 use Rattle.enclosure.specs.Evaluation.{ops, variables, enclosed, judged_line, judged}
 

@@ -2,7 +2,7 @@ ghost use Rattle.std.specs.Prelude.{◌≡◌, ℕ, ℤ};
 ghost use Rattle.numbers.specs.Numbers.{Numbers};
 ghost use Rattle.enclosure.specs.Laws.{EnclosureLaws};
 ghost use Rattle.span.specs.declared.shape.Span.{Span};
-ghost use Rattle.span.specs.declared.shape.Reach.{Reach};
+ghost use Rattle.span.specs.Reached.{Reach};
 
 use span::shape::{Reach, Span};
 

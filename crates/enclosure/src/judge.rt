@@ -10,28 +10,27 @@ ghost use Rattle.enclosure.specs.Points.{Point, Lies, MetAll, Bridge};
 ghost use Rattle.enclosure.specs.Sound.{Tells, JudgedTells, system_tells, NominalAlike};
 
 use crate::enclosure::Enclosure;
-use crate::evaluate::{parted, total};
-use crate::shape::Judgement;
+use crate::evaluate::total;
+use crate::lines::Lines;
+use crate::shape::{Judgement, Marked};
 use arithmetic::reach::between;
 use sheet::shape::Bounds;
 use sheet::system::System;
-use span::region::Region;
 use span::shape::{Reach, Span};
 
 // Broken if one is, met if both are, otherwise unsure.
+// Not `min` over an order of judgements: nothing else would use that order, and here the three answers are seen.
 fn join(j: Judgement, k: Judgement) -> Judgement
     ensures { result ≡ joined j k }
 {
-    match j {
-        Judgement::Met => k,
-        Judgement::Broken => Judgement::Broken,
-        Judgement::Unsure => match k {
-            Judgement::Broken => Judgement::Broken,
-            _ => Judgement::Unsure,
-        },
+    match (j, k) {
+        (Judgement::Broken, _) | (_, Judgement::Broken) => Judgement::Broken,
+        (Judgement::Met, Judgement::Met) => Judgement::Met,
+        _ => Judgement::Unsure,
     }
 }
 
+// The two ends of a row look at opposite ends of the span, so they are two functions.
 fn above(lo: i32, s: Span) -> Judgement
     ensures { result ≡ at_least lo s }
 {
@@ -72,26 +71,21 @@ pub fn judge_row(bounds: Bounds, r: Reach) -> Judgement
     }
 }
 
-/// What the rows of a system say of a box, in one kind of enclosure, with a number inside each span.
+/// What the rows of a system say of a marked box, in one kind of enclosure.
 /// Met means that every point of the box meets every row, broken that none does, unsure nothing: in whole numbers where box and system have as many variables, and over every kind of number.
 /// The bridge says what whole numbers have to do with fractions; the span of a nominal row is the plain one, so both kinds judge alike.
-pub fn judge<E: Enclosure>(system: &System, b: &Region, inside: &[i32; 8]) -> Judgement
-    ensures answer { result ≡ judged E.Enclosure b.now (numbers inside.now) (lines system.now) }
-    ensures sound { b.now.n ≡ system.now.n → (p : Point) → Lies p b.now → Tells result (MetAll p (lines system.now)) }
+pub fn judge<E: Enclosure>(system: &System, m: &Marked) -> Judgement
+    ensures answer { result ≡ judged E.Enclosure m.now.region.now (numbers m.now.inside) (lines system.now) }
+    ensures sound { m.now.region.now.n ≡ system.now.n → (p : Point) → Lies p m.now.region.now → Tells result (MetAll p (lines system.now)) }
     ensures everywhere { Proved JudgedTells system_tells }
     ensures bridge { Bridge }
     ensures alike { NominalAlike }
 {
     let n = system.n();
-    let rows = system.rows();
-    let mut rest = system.terms();
     let mut all = Judgement::Met;
-    for row in rows {
-        let (own, more) = parted(row.own, rest);
-        let e = total::<E>(n, own, b, inside);
-        let j = judge_row(row.bounds, e.span());
-        all = join(all, j);
-        rest = more;
+    for line in Lines::of(system) {
+        let e = total::<E>(n, line.terms, m);
+        all = join(all, judge_row(line.bounds, e.span()));
     }
     all
 }

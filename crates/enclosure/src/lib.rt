@@ -7,6 +7,7 @@
 pub mod enclosure;
 pub mod evaluate;
 pub mod judge;
+pub mod lines;
 pub mod nominal;
 pub mod plain;
 pub mod shape;

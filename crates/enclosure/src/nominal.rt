@@ -1,4 +1,5 @@
 ghost use Rattle.std.specs.Prelude.{◌≡◌};
+ghost use Rattle.span.specs.declared.shape.Reach.TheVariants.{Closed};
 ghost use Rattle.enclosure.specs.Nominals.{nominal_holds, nominal_number, nominal_variable, nominal_sum, nominal_product, nominal_power, nominal_span, nominal_laws, nominal_at, nominal_in, Around};
 
 use crate::enclosure::Enclosure;
@@ -13,52 +14,49 @@ fn around(r: Reach, m: i64) -> NominalReach
     ensures span { nominal_span result ≡ r }
     ensures count { nominal_at result ≡ nominal_in r m }
 {
+    // a match, for only of a closed one is it known that m lies in it, and so that the cast loses nothing
     match r {
-        Reach::Open => NominalReach::Open,
-        Reach::Closed(s) => NominalReach::Closed(NominalSpan {
-            span: s,
+        Reach::Open => Reach::Open,
+        Reach::Closed(span) => Reach::Closed(NominalSpan {
+            span,
             nominal: m as i32,
         }),
     }
 }
 
+fn closed_sum(a: NominalSpan, b: NominalSpan) -> NominalReach
+    ensures { result ≡ nominal_sum (Closed a) (Closed b) }
+{
+    let s = reach::sum(Reach::Closed(a.span), Reach::Closed(b.span));
+    around(s, i64::from(a.nominal) + i64::from(b.nominal))
+}
+
+fn closed_product(a: NominalSpan, b: NominalSpan) -> NominalReach
+    ensures { result ≡ nominal_product (Closed a) (Closed b) }
+{
+    let s = reach::product(Reach::Closed(a.span), Reach::Closed(b.span));
+    around(s, product_down(a.nominal, b.nominal))
+}
+
 fn sum_of(p: NominalReach, q: NominalReach) -> NominalReach
     ensures { result ≡ nominal_sum p q }
 {
-    match p {
-        NominalReach::Open => NominalReach::Open,
-        NominalReach::Closed(a) => match q {
-            NominalReach::Open => NominalReach::Open,
-            NominalReach::Closed(b) => {
-                let s = reach::sum(Reach::Closed(a.span), Reach::Closed(b.span));
-                around(s, a.nominal as i64 + b.nominal as i64)
-            }
-        },
-    }
+    p.both(q, closed_sum)
 }
 
 fn product_of(p: NominalReach, q: NominalReach) -> NominalReach
     ensures { result ≡ nominal_product p q }
 {
-    match p {
-        NominalReach::Open => NominalReach::Open,
-        NominalReach::Closed(a) => match q {
-            NominalReach::Open => NominalReach::Open,
-            NominalReach::Closed(b) => {
-                let s = reach::product(Reach::Closed(a.span), Reach::Closed(b.span));
-                let m = product_down(a.nominal, b.nominal);
-                around(s, m)
-            }
-        },
-    }
+    p.both(q, closed_product)
 }
 
+// Not `reach::power` over another product: a nominal power is told from power 0 up.
 fn power_of(p: NominalReach, k: u8) -> NominalReach
     ensures { result ≡ nominal_power p k }
 {
     let one = reach::between(65536, 65536);
     let mut all = around(one, 65536);
-    for i in 0..k {
+    for _i in 0..k {
         all = product_of(all, p);
     }
     all
@@ -83,16 +81,15 @@ impl Enclosure for NominalReach {
     ghost laws = { nominal_laws };
 
     fn number(c: i32) -> NominalReach {
-        let r = reach::between(c as i64, c as i64);
-        around(r, c as i64)
+        let r = reach::between(i64::from(c), i64::from(c));
+        around(r, i64::from(c))
     }
 
     // A number outside the span is brought to the nearest end.
     fn variable(i: usize, s: Span, inside: i32) -> NominalReach {
-        let m = s.lo.max(inside);
-        NominalReach::Closed(NominalSpan {
+        Reach::Closed(NominalSpan {
             span: s,
-            nominal: s.hi.min(m),
+            nominal: inside.clamp(s.lo, s.hi),
         })
     }
 
@@ -109,9 +106,10 @@ impl Enclosure for NominalReach {
     }
 
     fn span(self) -> Reach {
+        // a match: the only place where a closed one is turned without a test
         match self {
-            NominalReach::Open => Reach::Open,
-            NominalReach::Closed(a) => Reach::Closed(a.span),
+            Reach::Open => Reach::Open,
+            Reach::Closed(a) => Reach::Closed(a.span),
         }
     }
 }

@@ -24,7 +24,7 @@ impl Enclosure for Reach {
     ghost laws = { plain_laws };
 
     fn number(c: i32) -> Reach {
-        reach::between(c as i64, c as i64)
+        reach::between(i64::from(c), i64::from(c))
     }
 
     fn variable(i: usize, s: Span, inside: i32) -> Reach {

@@ -3,7 +3,7 @@ ghost use Rattle.format.specs.declared.fault.SheetFault.TheVariants.{Field as In
 ghost use Rattle.format.specs.Faults.{field_number, field_place, number, place};
 
 // What the field reader refuses, with the field's place.
-#[derive(Clone, Copy)]
+#[derive(Clone, Copy, Debug, PartialEq, Eq)]
 pub enum FieldFault {
     Short(usize),
     UnknownTag(usize),
@@ -11,7 +11,7 @@ pub enum FieldFault {
 }
 
 // What the sheet reader refuses. A field's fault travels whole.
-#[derive(Clone, Copy)]
+#[derive(Clone, Copy, Debug, PartialEq, Eq)]
 pub enum SheetFault {
     TooLong,
     Field(FieldFault),
@@ -32,6 +32,7 @@ impl From<FieldFault> for SheetFault {
 }
 
 impl FieldFault {
+    // the numbers are no discriminants: a fault that carries its place cannot be cast
     pub fn number(self) -> usize
         ensures { result ≡ field_number self }
     {
@@ -73,12 +74,12 @@ impl SheetFault {
         match self {
             SheetFault::TooLong => 4096,
             SheetFault::Field(f) => f.place(),
-            SheetFault::NotAllowed(p) => p,
-            SheetFault::TooMany(p) => p,
-            SheetFault::OutOfRange(p) => p,
-            SheetFault::NameTaken(p) => p,
-            SheetFault::Trailing(p) => p,
-            SheetFault::NoRoom(p) => p,
+            SheetFault::NotAllowed(p)
+            | SheetFault::TooMany(p)
+            | SheetFault::OutOfRange(p)
+            | SheetFault::NameTaken(p)
+            | SheetFault::Trailing(p)
+            | SheetFault::NoRoom(p) => p,
         }
     }
 }

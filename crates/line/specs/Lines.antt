@@ -1,5 +1,5 @@
 -- Report lines as bytes: their pieces, and what writing a line into a lent buffer answers and leaves.
-use Rattle.std.specs.Prelude.{◌≡◌, ℕ, ◌-◌, ◌/◌, ◌%◌, ◌<◌, ◌≤◌, true, cond, List, [], ◌∷◌, ◌++◌, length, drop, replicate, is_ok, Ok, Err, Result}
+use Rattle.std.specs.Prelude.{◌≡◌, ℕ, ◌-◌, ◌/◌, ◌%◌, ◌<◌, ◌≤◌, true, cond, List, [], ◌∷◌, ◌++◌, length, drop, replicate, codes, is_ok, Ok, Err, Result}
 use Rattle.std.specs.Fmt.{digit_glyph}
 use Rattle.line.specs.declared.fault.LineFault.{LineFault}
 use Rattle.line.specs.declared.fault.LineFault.TheVariants.{TooLong, NoMemory}
@@ -8,6 +8,10 @@ use Rattle.line.specs.declared.fault.LineFault.TheVariants.{TooLong, NoMemory}
 abbrev pub number : LineFault → ℕ
 number TooLong = 30
 number NoMemory = 31
+
+abbrev pub fault_words : LineFault → List ℕ
+fault_words TooLong = codes "the line is longer than the buffer"
+fault_words NoMemory = codes "there is no memory for the line"
 
 -- the piece stands at the end of the line, or the line is as it was
 abbrev pub appended : {E : Type 0} → Result (Unit {0}) E → List ℕ → List ℕ → List ℕ

@@ -1,13 +1,19 @@
-ghost use Rattle.std.specs.Prelude.{◌≡◌};
-ghost use Rattle.line.specs.Lines.{number};
+ghost use Rattle.std.specs.Prelude.{◌≡◌, Some};
+ghost use Rattle.line.specs.declared.fault.LineFault.TheVariants.{TooLong, NoMemory};
+ghost use Rattle.line.specs.Lines.{number, fault_words};
 
-/// Why a line was not written.
-#[derive(Clone, Copy)]
+use list::lent::Full;
+use std::alloc::AllocError;
+use std::error::Error;
+use std::fmt;
+
+/// Why a line was not written, each fault with its number in a report.
+#[derive(Clone, Copy, Debug, PartialEq, Eq)]
 pub enum LineFault {
     /// It is longer than the buffer.
-    TooLong,
+    TooLong = 30,
     /// There was no memory to put it together.
-    NoMemory,
+    NoMemory = 31,
 }
 
 impl LineFault {
@@ -15,9 +21,35 @@ impl LineFault {
     pub fn number(self) -> usize
         ensures { result ≡ number self }
     {
-        match self {
-            LineFault::TooLong => 30,
-            LineFault::NoMemory => 31,
-        }
+        self as usize
     }
 }
+
+impl From<Full> for LineFault {
+    ghost from_gives = { λ _ r. r ≡ TooLong };
+
+    fn from(_full: Full) -> LineFault {
+        Self::TooLong
+    }
+}
+
+impl From<AllocError> for LineFault {
+    ghost from_gives = { λ _ r. r ≡ NoMemory };
+
+    fn from(_none: AllocError) -> LineFault {
+        Self::NoMemory
+    }
+}
+
+impl fmt::Display for LineFault {
+    ghost output = { λ f. Some (fault_words f) };
+
+    fn fmt<W: fmt::Write>(&self, f: &mut fmt::Formatter<W>) -> fmt::Result {
+        f.write_str(match self {
+            LineFault::TooLong => "the line is longer than the buffer",
+            LineFault::NoMemory => "there is no memory for the line",
+        })
+    }
+}
+
+impl Error for LineFault {}

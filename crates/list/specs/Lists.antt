@@ -1,15 +1,25 @@
 -- A list over lent places, for every kind of element: what it holds, oldest first, and what each call leaves.
-use Rattle.std.specs.Prelude.{ℕ, ◌-◌, Bool, cond, List as Seq, [], ◌∷◌, ◌++◌, length, take, drop, Some, None, Option, nat_le, nat_lt}
-use Rattle.list.specs.declared.lent.List.{List}
+use Rattle.std.specs.Prelude.{ℕ, ◌-◌, Bool, cond, List as Seq, [], ◌∷◌, ◌++◌, length, drop, Some, None, Option, nat_le, nat_lt}
+
+-- a list: what it holds, and how many places it lies over
+pub record Listed (T : Type 0) : Type 0 where
+  pub held : Seq T
+  pub places : ℕ
 
 module _ {T : Type 0} where
-  -- what it holds: its first `len` places, or all of them
-  abbrev pub items : List T → Seq T
-  items l = take l.len l.places.now
+  abbrev pub items : Listed T → Seq T
+  items l = l.held
 
-  -- how many places it has
-  abbrev pub room : List T → ℕ
-  room l = length l.places.now
+  abbrev pub room : Listed T → ℕ
+  room l = l.places
+
+  -- nothing, over so many places
+  abbrev pub empty : ℕ → Listed T
+  empty places = record { held = []; places = places }
+
+  -- these over the places of l
+  abbrev pub holding : Listed T → Seq T → Listed T
+  holding l xs = record { held = xs; places = l.places }
 
   -- the newest of what is held, and the rest
   abbrev pub newest_of : T → Seq T → T

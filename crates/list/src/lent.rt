@@ -1,48 +1,42 @@
-ghost use Rattle.std.specs.Prelude.{◌≡◌, ℕ, ◌+◌, ◌-◌, ◌<◌, ◌≤◌, true, false, [], ◌∷◌, ◌++◌, length, take, drop, slice_index_or, slice_set};
+ghost use Rattle.std.specs.Prelude.{◌≡◌, ◌≤◌, ◌↔◌, [], Some, codes, length, take, IsTrue};
 ghost use Rattle.std.specs.List.{slice_get};
-ghost use Rattle.list.specs.Lists.{items, room, newest, older, added, has_room, free, fits, fronted, replaced};
+ghost use Rattle.list.specs.Lists.{Listed, items, room, empty, holding, newest, older, added, has_room, free, fits, fronted, replaced};
 ghost use Rattle.list.specs.Answers.{answered};
 
-/// A list over places that the caller lends, oldest first. What stands past `len` is of no account.
+use std::error::Error;
+use std::fmt;
+use std::marker::Model;
+
+/// A list over places that the caller lends, oldest first.
+// The project's memory is fixed: a list lies over lent places with its count beside them, and in no Vec.
 #[derive(Drop)]
 pub struct List<'a, T> {
     places: &'a mut [T],
     len: usize,
 }
 
+impl<'a, T> Model for List<'a, T> {
+    ghost Value = { Listed T };
+
+    // What stands past `len` is of no account.
+    ghost view = { λ l. record { held = take l.len l.places.now; places = length l.places.now } };
+
+    ghost invariant = { λ l. l.len ≤ length l.places.now };
+}
+
 /// There is no place left for it.
-#[derive(Clone, Copy)]
+#[derive(Clone, Copy, Debug, PartialEq, Eq)]
 pub struct Full;
 
-fn put<T: Copy>(places: &mut [T], at: usize, x: T)
-    requires { at < length places.old }
-    ensures { places.new ≡ slice_set places.old at x }
-{
-    places[at] = x;
-}
+impl fmt::Display for Full {
+    ghost output = { λ _. Some (codes "the list has no place left") };
 
-fn read<T: Copy>(places: &[T], at: usize) -> T
-    requires { at < length places.now }
-    ensures { result ≡ slice_index_or places.now at result }
-{
-    places[at]
-}
-
-fn front<T>(places: &[T], n: usize) -> &[T]
-    requires { n ≤ length places.now }
-    ensures { result.now ≡ take n places.now }
-{
-    &places[..n]
-}
-
-fn copy<T: Copy>(places: &mut [T], xs: &[T])
-    requires { length xs.now ≤ length places.old }
-    ensures { places.new ≡ xs.now ++ drop (length xs.now) places.old }
-{
-    for (i, x) in xs.iter().enumerate() {
-        places[i] = *x;
+    fn fmt<W: fmt::Write>(&self, f: &mut fmt::Formatter<W>) -> fmt::Result {
+        f.write_str("the list has no place left")
     }
 }
+
+impl Error for Full {}
 
 /// Copies these to the front of the places; the places behind stay. Refused, and all as it was, where they are more than the places.
 pub fn copy_to_front<T: Copy>(places: &mut [T], xs: &[T]) -> Result<(), Full>
@@ -52,15 +46,14 @@ pub fn copy_to_front<T: Copy>(places: &mut [T], xs: &[T]) -> Result<(), Full>
     if xs.len() > places.len() {
         return Err(Full);
     }
-    copy(places, xs);
+    places[..xs.len()].copy_from_slice(xs);
     Ok(())
 }
 
 impl<'a, T: Copy> List<'a, T> {
     /// An empty list over these places.
     pub fn over(places: &'a mut [T]) -> List<'a, T>
-        ensures holds { items result ≡ [] }
-        ensures all { room result ≡ length places.old }
+        ensures { result ≡ empty (length places.old) }
     {
         List { places, len: 0 }
     }
@@ -77,84 +70,75 @@ impl<'a, T: Copy> List<'a, T> {
         ensures counts { result ≡ length (items self.now) }
         ensures within { result ≤ room self.now }
     {
-        let all = self.places();
-        if self.len < all { self.len } else { all }
+        self.items().len()
+    }
+
+    /// Whether it holds nothing.
+    pub fn is_empty(&self) -> bool
+        ensures { IsTrue result ↔ (items self.now ≡ []) }
+    {
+        self.items().is_empty()
     }
 
     /// How many places are free.
     pub fn free(&self) -> usize
         ensures { result ≡ free (room self.now) (items self.now) }
     {
-        let used = self.len();
-        self.places() - used
+        self.places() - self.len()
     }
 
     /// Element i, the oldest being 0.
     pub fn get(&self, i: usize) -> Option<T>
         ensures { result ≡ slice_get (items self.now) i }
     {
-        if i >= self.len() {
-            return None;
-        }
-        Some(read(self.places, i))
+        self.items().get(i).copied()
     }
 
     /// What it holds, oldest first.
     pub fn items(&self) -> &[T]
-        ensures { result.now ≡ items self.now }
+        ensures holds { result.now ≡ items self.now }
+        ensures within { length result.now ≤ room self.now }
     {
-        let used = self.len();
-        front(self.places, used)
+        &self.places[..self.len]
     }
 
     /// One more at the end. A full list refuses and stays as it is.
     pub fn add(&mut self, x: T) -> Result<(), Full>
-        ensures holds { items self.new ≡ added (room self.old) (items self.old) x }
-        ensures same { room self.new ≡ room self.old }
+        ensures holds { self.new ≡ holding self.old (added (room self.old) (items self.old) x) }
         ensures says { result ≡ answered (has_room (room self.old) (items self.old)) }
     {
-        let at = self.len;
-        if at >= self.places.len() {
+        if self.len == self.places.len() {
             return Err(Full);
         }
-        put(self.places, at, x);
-        self.len = at + 1;
+        self.places[self.len] = x;
+        self.len += 1;
         Ok(())
     }
 
     /// Takes the newest out.
     pub fn pop(&mut self) -> Option<T>
         ensures gives { result ≡ newest (items self.old) }
-        ensures holds { items self.new ≡ older (items self.old) }
-        ensures same { room self.new ≡ room self.old }
+        ensures holds { self.new ≡ holding self.old (older (items self.old)) }
     {
-        let n = self.len();
-        if n == 0 {
-            return None;
-        }
-        let x = self.places[n - 1];
-        self.len = n - 1;
-        Some(x)
+        let last = self.len.checked_sub(1)?;
+        self.len = last;
+        Some(self.places[last])
     }
 
     /// Holds nothing from here on.
     pub fn clear(&mut self)
-        ensures holds { items self.new ≡ [] }
-        ensures same { room self.new ≡ room self.old }
+        ensures { self.new ≡ holding self.old [] }
     {
         self.len = 0;
     }
 
     /// Holds these in place of what it held. Refused, and as it was, where they are more than its places.
     pub fn replace(&mut self, xs: &[T]) -> Result<(), Full>
-        ensures holds { items self.new ≡ replaced (room self.old) (items self.old) xs.now }
-        ensures same { room self.new ≡ room self.old }
+        ensures holds { self.new ≡ holding self.old (replaced (room self.old) (items self.old) xs.now) }
         ensures says { result ≡ answered (fits (room self.old) xs.now) }
     {
-        let done = copy_to_front(self.places, xs);
-        if done.is_ok() {
-            self.len = xs.len();
-        }
-        done
+        copy_to_front(self.places, xs)?;
+        self.len = xs.len();
+        Ok(())
     }
 }

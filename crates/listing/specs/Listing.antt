@@ -4,7 +4,8 @@ use Rattle.std.specs.List.{flat_map}
 use Rattle.std.specs.Fmt.{signed_decimal}
 use Rattle.line.specs.Lines.{hexadecimal, padding}
 use Rattle.numbers.specs.Rows.{Term}
-use Rattle.format.specs.Content.{GivenVariable, Limits, at_least, at_most, between}
+use Rattle.format.specs.Content.{GivenVariable, Limits}
+use Rattle.sheet.specs.Words.{asked_words}
 use Rattle.format.specs.Written.{FieldKind, a_variable, a_tolerance, a_row, a_term, an_end, tag}
 use Rattle.format.specs.Reading.{number_in, variable_in, limits_in, term_in, is_letter}
 
@@ -49,9 +50,7 @@ variable_words v = codes "variable " ++ (map name_byte v.name ++ values_words v)
 
 abbrev pub row_words : Option Limits → List ℕ
 row_words None = codes "row of no kind"
-row_words (Some (at_least lo)) = codes "row at least " ++ signed_decimal lo
-row_words (Some (at_most hi)) = codes "row at most " ++ signed_decimal hi
-row_words (Some (between lo hi)) = codes "row between " ++ (signed_decimal lo ++ (codes " and " ++ signed_decimal hi))
+row_words (Some k) = codes "row " ++ asked_words k
 
 -- power 1 is the name alone
 abbrev pub exponent_words : ℕ → List ℕ

@@ -1,5 +1,4 @@
-ghost use Rattle.std.specs.Prelude.{◌≡◌, ℕ, [], ◌∷◌, ◌++◌, OnOk};
-ghost use Rattle.format.specs.Reading.{number_in};
+ghost use Rattle.std.specs.Prelude.{◌≡◌, ◌∷◌, ◌++◌, OnOk};
 ghost use Rattle.listing.specs.Listing.{hexes, grouped};
 
 use line::piece::{push_hex, push_text};
@@ -20,8 +19,7 @@ fn push_group(line: &mut Vec<u8>, bytes: &[u8]) -> Result<(), AllocError>
     ensures { OnOk result (line.new.items ≡ line.old.items ++ (32 ∷ hexes bytes.now)) }
 {
     push_text(line, " ")?;
-    push_hexes(line, bytes)?;
-    Ok(())
+    push_hexes(line, bytes)
 }
 
 // Groups of these sizes, and what is left as the last one.
@@ -38,8 +36,9 @@ pub(crate) fn push_groups(
         push_group(line, group)?;
         rest = more;
     }
-    if rest.len() > 0 {
-        push_group(line, rest)?;
+    if rest.is_empty() {
+        Ok(())
+    } else {
+        push_group(line, rest)
     }
-    Ok(())
 }

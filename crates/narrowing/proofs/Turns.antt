@@ -1,5 +1,7 @@
 -- One turn of each loop of the pass.
-use Rattle.std.proofs.Common.{◌≡◌, ℕ, zero, suc, ◌+◌, ◌-◌, ◌<◌, ◌≤◌, true, false, List, [], ◌∷◌, map, length, get_or, take, drop, set, ℤ, ◌≤ℤ◌, Some, sym, refl, ap, ◌∙◌, add-one, arith, drop_of_length-le, drop-cons}
+use Rattle.std.proofs.Common.{◌≡◌, ltb, lt-ltb, ◌||◌, ℕ, zero, suc, ◌+◌, ◌-◌, ◌<◌, ◌≤◌, true, false, List, [], ◌∷◌, map, length, get_or, take, drop, set, ℤ, ◌≤ℤ◌, Some, sym, refl, ap, ◌∙◌, add-one, arith, drop_of_length-le, drop-cons}
+use Rattle.std.specs.List.{list_any}
+use Rattle.std.proofs.Math.Decide.{dec_lt}
 use Rattle.span.specs.Making.{at_most?}
 use Rattle.arithmetic.specs.Reaches.{stretch}
 use Rattle.numbers.specs.Rows.{Term, degree}
@@ -35,18 +37,20 @@ lowered_set (suc n) (suc j) (e ∷ es) h k = ap (λ (l : List ℕ). e ∷ l) (lo
 lower_is : (n j : ℕ) (t r : Written) → r.coefficient ≡ t.coefficient → r.exponents ≡ set t.exponents j (get_or t.exponents j 0 - 1) → j < n → 0 < get_or t.exponents j 0 → lower j (term n t) ≡ term n r
 lower_is n j t r ec ee h k = λ i. record { coefficient = sym ec i; exponents = (lowered_set n j t.exponents h k ∙ ap (take n) (sym ee)) i }
 
+-- some term has a power of variable j
+pub occurs_any : (n j : ℕ) (ts : List Written) → j < n → list_any (λ t. ltb 0 (get_or t.exponents j 0)) ts ≡ occurs j (map (term n) ts)
+unfolding occurs
+occurs_any n j [] h = refl
+occurs_any n j (t ∷ ts) h = by (dec_lt 0 (get_or t.exponents j 0)) (occurs_any n j ts h)
+  where
+    by : Dec (0 < get_or t.exponents j 0) → list_any (λ u. ltb 0 (get_or u.exponents j 0)) ts ≡ occurs j (map (term n) ts) → list_any (λ u. ltb 0 (get_or u.exponents j 0)) (t ∷ ts) ≡ has j (take n t.exponents) || occurs j (map (term n) ts)
+    by (yes k) more = rw (lt-ltb 0 (get_or t.exponents j 0) k, has_some n j t.exponents h k) refl
+    by (no k) more = let z : get_or t.exponents j 0 ≡ 0 = omega arith in rw (z, has_none n j t.exponents z) more
+
 -- the element t of ts at i, and variable j
 module _ (n j : ℕ) (ts : List Written) (i : ℕ) (t : Written) (et : t ≡ get_or ts i t) (l : i < length ts) (h : j < n) where
   item : drop i ts ≡ t ∷ drop (suc i) ts
   item = drop-cons ts i t l ∙ ap (λ (u : Written). u ∷ drop (suc i) ts) (sym et)
-
-  pub occurs_found : 0 < get_or t.exponents j 0 → occurs j (map (term n) (drop i ts)) ≡ true
-  unfolding occurs
-  occurs_found k = ap (λ (r : List Written). occurs j (map (term n) r)) item ∙ rw (has_some n j t.exponents h k)
-
-  pub occurs_passed : get_or t.exponents j 0 ≡ 0 → occurs j (map (term n) (drop i ts)) ≡ occurs j (map (term n) (drop (i + 1) ts))
-  unfolding occurs
-  occurs_passed k = ap (λ (r : List Written). occurs j (map (term n) r)) item ∙ rw (has_none n j t.exponents k, add-one)
 
   module _ {X : Type 0} (O : Ops X) (v : ℕ → X) (a : X) where
     -- r is t with one power of variable j taken off
@@ -66,10 +70,6 @@ module _ (n j : ℕ) (ts : List Written) (i : ℕ) (t : Written) (et : t ≡ get
     pub others_passed : 0 < get_or t.exponents j 0 → terms_from O v a (others j (map (term n) (drop i ts))) ≡ terms_from O v a (others j (map (term n) (drop (i + 1) ts)))
     unfolding others
     others_passed k = ap (λ (u : List Written). terms_from O v a (others j (map (term n) u))) item ∙ rw (has_some n j t.exponents h k, add-one)
-
-pub occurs_done : (n j : ℕ) (ts : List Written) (i : ℕ) → length ts ≤ i → occurs j (map (term n) (drop i ts)) ≡ false
-unfolding occurs
-occurs_done n j ts i h = ap (λ (r : List Written). occurs j (map (term n) r)) (drop_of_length-le ts h)
 
 module _ {X : Type 0} (O : Ops X) (v : ℕ → X) (a : X) where
   pub holding_done : (n j : ℕ) (ts : List Written) (i : ℕ) → length ts ≤ i → terms_from O v a (holding j (map (term n) (drop i ts))) ≡ a

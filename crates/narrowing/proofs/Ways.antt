@@ -1,17 +1,17 @@
 -- What the code of the row test and of the pass gives on each way.
-use Rattle.std.proofs.Common.{◌≡◌, ℕ, suc, ◌+◌, ◌-◌, ◌<◌, ◌≤◌, true, false, List, ◌∷◌, map, length, get_or, take, drop, Some, None, Option, sym, ap, ◌∙◌, add-one, arith}
+use Rattle.std.proofs.Common.{◌≡◌, ℕ, suc, ◌+◌, ◌-◌, ◌<◌, ◌≤◌, true, false, List, [], ◌∷◌, map, Some, None, Option, refl, ap, ◌∙◌, add-one, arith}
 use Rattle.span.specs.declared.shape.Span.{Span}
-use Rattle.span.specs.declared.shape.Reach.{Reach}
+use Rattle.span.specs.Reached.{Reach}
 use Rattle.arithmetic.specs.Reaches.{difference, quotient, within}
 use Rattle.span.specs.declared.region.Region.{Region}
 use Rattle.span.specs.Regions.{at}
-use Rattle.sheet.specs.declared.shape.Term.{Term as Written}
-use Rattle.sheet.specs.declared.shape.Row.{Row}
 use Rattle.enclosure.specs.declared.shape.Judgement.{Judgement}
-use Rattle.enclosure.specs.Rows.{Line, lines_from, term}
+use Rattle.enclosure.specs.Rows.{Line, term}
 use Rattle.enclosure.specs.Judging.{judged_row}
 use Rattle.enclosure.specs.Plain.{plain_row}
-use Rattle.enclosure.proofs.Turns.{line_turn, lines_done}
+use Rattle.enclosure.specs.declared.shape.Judgement.TheVariants.{Met, Broken, Unsure}
+use Rattle.enclosure.specs.Lines.{Part}
+use Rattle.enclosure.proofs.Turns.{lined}
 use Rattle.contractor.specs.Steps.{bind}
 use Rattle.narrowing.specs.Tests.{unless_broken, tested}
 use Rattle.narrowing.specs.Passes.{occurs, holding, others, target, replaced, aimed, narrowed_at, line, narrowed_from, passed}
@@ -43,24 +43,27 @@ module _ (l : Line) (n j : ℕ) (b : Region) (f : Region → Option Region) wher
   unfolding narrowed_from
   variables_done h = let k : n - j ≡ 0 = omega arith in rw k
 
--- row r stands at i, and its terms first in what is left
-module _ (n : ℕ) (rows : List Row) (i : ℕ) (rest : List Written) (b : Region) where
-  module _ (r : Row) (own more : List Written) (er : r ≡ get_or rows i r) (h : i < length rows) (eo : own ≡ take r.own rest) (em : more ≡ drop r.own rest) where
-    turn : (F : List Line → Option Region) → F (line n r.bounds own ∷ lines_from n (drop (i + 1) rows) more) ≡ F (lines_from n (drop i rows) rest)
-    turn F = rw (eo, em) (sym (line_turn F n rows i r rest er h))
-
-    pub row_turn : bind (narrowed_from (line n r.bounds own) n 0 b) (passed n (lines_from n (drop (i + 1) rows) more)) ≡ passed n (lines_from n (drop i rows) rest) b
+-- the part p comes next, and the parts rest behind it
+module _ (n : ℕ) (all : List Part) (b : Region) where
+  module _ (p : Part) (rest : List Part) (e : all ≡ p ∷ rest) where
+    pub row_turn : bind (narrowed_from (line n p.0 p.1) n 0 b) (passed n (map (lined n) rest)) ≡ passed n (map (lined n) all) b
     unfolding passed
-    row_turn = turn (λ (ls : List Line). passed n ls b)
+    row_turn = rw e
 
-    pub test_turn : (whole : Reach) (j : Judgement) → whole ≡ plain_row b (map (term n) own) → j ≡ judged_row r.bounds whole → unless_broken j (tested (lines_from n (drop (i + 1) rows) more) b) ≡ tested (lines_from n (drop i rows) rest) b
+    pub test_turn : (whole : Reach) (j : Judgement) → whole ≡ plain_row b (map (term n) p.1) → j ≡ judged_row p.0 whole → unless_broken j (tested (map (lined n) rest) b) ≡ tested (map (lined n) all) b
     unfolding tested
-    test_turn whole j ew ej = rw (ej, ew) (turn (λ (ls : List Line). tested ls b))
+    test_turn whole j ew ej = rw (ej, ew, e)
 
-  pub rows_done : length rows ≤ i → passed n (lines_from n (drop i rows) rest) b ≡ Some b
+  pub rows_done : all ≡ [] → passed n (map (lined n) all) b ≡ Some b
   unfolding passed
-  rows_done h = lines_done (λ (ls : List Line). passed n ls b) n rows i rest h
+  rows_done e = rw e
 
-  pub tested_done : length rows ≤ i → tested (lines_from n (drop i rows) rest) b ≡ Some b
+  pub tested_done : all ≡ [] → tested (map (lined n) all) b ≡ Some b
   unfolding tested
-  tested_done h = lines_done (λ (ls : List Line). tested ls b) n rows i rest h
+  tested_done e = rw e
+
+-- a judgement that is not broken lets the others decide
+pub not_broken : (j : Judgement) (o : Option Region) → (j ≡ Broken → ⊥) → unless_broken j o ≡ o
+not_broken Met o n = refl
+not_broken Unsure o n = refl
+not_broken Broken o n = absurd (n refl)

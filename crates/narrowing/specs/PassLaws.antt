@@ -9,7 +9,7 @@ use Rattle.numbers.specs.Rows.{Term}
 use Rattle.numbers.proofs.Laws as L
 use Rattle.numbers.proofs.Ends as S
 use Rattle.span.specs.declared.shape.Span.{Span}
-use Rattle.span.specs.declared.shape.Reach.{Reach}
+use Rattle.span.specs.Reached.{Reach}
 use Rattle.span.specs.declared.shape.Reach.TheVariants.{Open, Closed}
 use Rattle.span.specs.Making.{at_most?}
 use Rattle.arithmetic.specs.Reaches.{difference, within}

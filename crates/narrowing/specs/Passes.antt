@@ -2,7 +2,7 @@
 use Rattle.std.specs.Prelude.{ℕ, zero, suc, Bool, true, false, cond, ◌||◌, List, [], ◌∷◌, map, ℤ, ◌≤ℤ◌, Some, None, Option}
 use Rattle.numbers.specs.Rows.{Term}
 use Rattle.span.specs.declared.shape.Span.{Span}
-use Rattle.span.specs.declared.shape.Reach.{Reach}
+use Rattle.span.specs.Reached.{Reach}
 use Rattle.span.specs.declared.shape.Reach.TheVariants.{Open, Closed}
 use Rattle.span.specs.Making.{at_most?}
 use Rattle.arithmetic.specs.Reaches.{stretch, difference, quotient, within}

@@ -2,15 +2,16 @@ ghost use Rattle.narrowing.specs.Tests.{row_test};
 ghost use Rattle.narrowing.specs.PassLaws.{row_test_laws};
 
 use contractor::contractor::Contractor;
-use enclosure::evaluate::{parted, total};
+use enclosure::evaluate::total;
 use enclosure::judge::judge_row;
-use enclosure::shape::Judgement;
+use enclosure::lines::Lines;
+use enclosure::shape::{Judgement, Marked};
 use sheet::system::System;
 use span::region::Region;
 use span::shape::Reach;
 
-// The row test: none if the plain spans call a row broken, otherwise the box.
-#[derive(Drop)]
+/// The row test: none if the plain spans call a row broken, otherwise the box.
+#[derive(Clone, Copy, Debug)]
 pub struct RowTest;
 
 impl Contractor for RowTest {
@@ -19,19 +20,12 @@ impl Contractor for RowTest {
     ghost laws = { λ _. row_test_laws };
 
     fn narrow(&self, system: &System, b: &Region) -> Option<Region> {
-        let inside = [0; 8];
         let n = system.n();
-        let rows = system.rows();
-        let mut rest = system.terms();
-        for i in 0..rows.len() {
-            let row = rows[i];
-            let (own, more) = parted(row.own, rest);
-            rest = more;
-            let whole = total::<Reach>(n, own, b, &inside);
-            match judge_row(row.bounds, whole) {
-                Judgement::Broken => return None,
-                Judgement::Met => {}
-                Judgement::Unsure => {}
+        let m = Marked::unmarked(b);
+        for line in Lines::of(system) {
+            let whole = total::<Reach>(n, line.terms, &m);
+            if let Judgement::Broken = judge_row(line.bounds, whole) {
+                return None;
             }
         }
         Some(*b)

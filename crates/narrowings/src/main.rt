@@ -37,8 +37,8 @@ fn push_answer<C: Contractor>(
     }
 }
 
-fn answers(heap: Global, sheet: &Sheet) -> Result<Vec<u8>, AllocError> {
-    let mut out = Vec::new(heap);
+fn answers(alloc: Global, sheet: &Sheet) -> Result<Vec<u8>, AllocError> {
+    let mut out = Vec::new(alloc);
     let Some(start) = sheet.start() else {
         return Ok(out);
     };
@@ -59,21 +59,24 @@ fn answers(heap: Global, sheet: &Sheet) -> Result<Vec<u8>, AllocError> {
     Ok(out)
 }
 
-fn narrowings(heap: Global, bytes: &[u8]) -> Result<Vec<u8>, AllocError> {
+fn narrowings(alloc: Global, bytes: &[u8]) -> Result<Vec<u8>, AllocError> {
+    // lent places live in the frame that lends them, so each program has its own
     let mut rows = [blank_row(); 64];
     let mut terms = [blank_term(); 64];
     let mut sheet = Sheet::over(&mut rows, &mut terms);
     let _ = sheet.read(bytes);
-    answers(heap, &sheet)
+    answers(alloc, &sheet)
 }
 
 fn main(rt: HostRuntime) -> anyhow::Result<()> {
-    let heap = rt.alloc();
+    let alloc = rt.alloc();
+    // Three programs go over such a list. A call for all would take the runtime and the work, and promise nothing, as
+    // `fs::read` does; these lines show what it would do.
     let names = fs::read_to_string(&rt, "names.txt")?;
     for name in names.lines() {
-        let path = format!(in heap; "{name}.sheet")?;
+        let path = format!(in alloc; "{name}.sheet")?;
         let bytes = fs::read(&rt, path.as_str())?;
-        let out = narrowings(heap, bytes.as_slice())?;
+        let out = narrowings(alloc, bytes.as_slice())?;
         println!(rt; "== {name}")?;
         rt.stdout().write_all(out.as_slice())?;
     }

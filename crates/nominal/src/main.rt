@@ -3,42 +3,39 @@
 #![tactic(auto)]
 
 use anyhow::anyhow;
-use program::fault::{ProgramFault, fault_line};
-use program::intake::take_in;
+use enclosure::shape::Marked;
+use program::fault::ProgramFault;
+use program::serve::serve;
 use report::row::nominal_report;
 use sheet::parts::{blank_row, blank_term};
 use sheet::sheet::Sheet;
 use std::alloc::{AllocError, Global};
-use std::io::Write;
 
 // The rows of an accepted sheet.
-fn rows_of(heap: Global, sheet: &Sheet) -> Result<Vec<u8>, AllocError> {
+fn rows_of(alloc: Global, sheet: &Sheet) -> Result<Vec<u8>, AllocError> {
     match sheet.start() {
-        Some(start) => nominal_report(heap, &sheet.system(), &start, &sheet.nominals()),
-        None => Ok(Vec::new(heap)),
+        Some(start) => nominal_report(
+            alloc,
+            &sheet.system(),
+            &Marked {
+                region: &start,
+                inside: sheet.nominals(),
+            },
+        ),
+        None => Ok(Vec::new(alloc)),
     }
 }
 
-fn nominal(heap: Global, bytes: &[u8]) -> Result<Vec<u8>, ProgramFault> {
+fn nominal(alloc: Global, bytes: &[u8]) -> Result<Vec<u8>, ProgramFault> {
+    // lent places live in the frame that lends them, so each program has its own
     let mut rows = [blank_row(); 64];
     let mut terms = [blank_term(); 64];
     let mut sheet = Sheet::over(&mut rows, &mut terms);
     sheet.read(bytes)?;
-    Ok(rows_of(heap, &sheet)?)
+    Ok(rows_of(alloc, &sheet)?)
 }
 
 fn main(rt: HostRuntime) -> anyhow::Result<()> {
-    let mut buffer = [0; 4097];
-    let used = take_in(&mut rt.stdin(), &mut buffer)?;
-    match nominal(rt.alloc(), &buffer[0..used]) {
-        Ok(out) => {
-            rt.stdout().write_all(out.as_slice())?;
-            Ok(())
-        }
-        Err(fault) => {
-            let line = fault_line(rt.alloc(), fault)?;
-            rt.stdout().write_all(line.as_slice())?;
-            Err(anyhow!("the sheet is refused"))
-        }
-    }
+    let answer = serve(rt.alloc(), &mut rt.stdin(), &mut rt.stdout(), nominal)?;
+    answer.map_err(|_| anyhow!("the sheet is refused"))
 }

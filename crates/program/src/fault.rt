@@ -1,16 +1,17 @@
-ghost use Rattle.std.specs.Prelude.{◌≡◌, IfOk};
+ghost use Rattle.std.specs.Prelude.{◌≡◌, IfOk, Some};
 ghost use Rattle.program.specs.declared.fault.ProgramFault.TheVariants.{Sheet as InSheet, Run as InRun, Memory};
-ghost use Rattle.program.specs.Faults.{refusal_of, run_number, fault_line};
+ghost use Rattle.program.specs.Faults.{refusal_of, run_number, fault_text, fault_line};
 
 use format::fault::SheetFault;
-use line::refusal::refusal_line;
-use line::shape::Refusal;
+use line::shape::{Reader, Refusal};
 use std::alloc::{AllocError, Global};
+use std::error::Error;
+use std::fmt;
 
-/// Why there was no run: it could not be opened.
-#[derive(Clone, Copy)]
+/// Why there was no run: it could not be opened. The fault has the number that the refusal line gives it.
+#[derive(Clone, Copy, Debug, PartialEq, Eq)]
 pub enum RunFault {
-    NotOpened,
+    NotOpened = 20,
 }
 
 impl RunFault {
@@ -18,14 +19,12 @@ impl RunFault {
     pub fn number(self) -> usize
         ensures { result ≡ run_number self }
     {
-        match self {
-            RunFault::NotOpened => 20,
-        }
+        self as usize
     }
 }
 
 /// Why a program ends early. The sheet's fault, or the run's, travels whole.
-#[derive(Clone, Copy)]
+#[derive(Clone, Copy, Debug, PartialEq, Eq)]
 pub enum ProgramFault {
     Sheet(SheetFault),
     Run(RunFault),
@@ -49,59 +48,47 @@ impl From<RunFault> for ProgramFault {
 }
 
 impl From<AllocError> for ProgramFault {
-    ghost from_gives = { λ f r. r ≡ Memory };
+    ghost from_gives = { λ _ r. r ≡ Memory };
 
-    fn from(_fault: AllocError) -> ProgramFault {
+    fn from(_none: AllocError) -> ProgramFault {
         ProgramFault::Memory
     }
 }
 
+impl fmt::Display for ProgramFault {
+    ghost output = { λ f. Some (fault_text f) };
+
+    fn fmt<W: fmt::Write>(&self, f: &mut fmt::Formatter<W>) -> fmt::Result {
+        match self {
+            ProgramFault::Sheet(refused) => write!(f, "{}", refusal_of(*refused)),
+            ProgramFault::Run(refused) => write!(f, "REFUSED {} IN RUN", refused.number()),
+            ProgramFault::Memory => f.write_str("NO MEMORY"),
+        }
+    }
+}
+
+impl Error for ProgramFault {}
+
 /// A sheet's fault as the refusal line tells it.
+// No `From`: both types are other crates'.
 pub fn refusal_of(fault: SheetFault) -> Refusal
     ensures { result ≡ refusal_of fault }
 {
-    let in_field = match fault {
-        SheetFault::Field(_) => true,
-        _ => false,
+    let reader = match fault {
+        SheetFault::Field(_) => Reader::Field,
+        _ => Reader::Sheet,
     };
     Refusal {
         number: fault.number(),
         place: fault.place(),
-        in_field,
+        reader,
     }
-}
-
-fn run_line(heap: Global, fault: RunFault) -> Result<Vec<u8>, AllocError>
-    ensures { IfOk result (λ s. s.items ≡ fault_line (InRun fault)) }
-{
-    let number = fault.number();
-    let text = format!(in heap; "REFUSED {number} IN RUN\n")?;
-    Ok(text.into_bytes())
 }
 
 /// The line that a program ends with, and its newline.
-pub fn fault_line(heap: Global, fault: ProgramFault) -> Result<Vec<u8>, AllocError>
+pub fn fault_line(alloc: Global, fault: ProgramFault) -> Result<Vec<u8>, AllocError>
     ensures { IfOk result (λ s. s.items ≡ fault_line fault) }
 {
-    match fault {
-        ProgramFault::Sheet(refused) => sheet_line(heap, refused),
-        ProgramFault::Run(refused) => run_line(heap, refused),
-        ProgramFault::Memory => memory_line(heap),
-    }
-}
-
-fn sheet_line(heap: Global, fault: SheetFault) -> Result<Vec<u8>, AllocError>
-    ensures { IfOk result (λ s. s.items ≡ fault_line (InSheet fault)) }
-{
-    let mut line = refusal_line(heap, refusal_of(fault))?;
-    line.extend_from_slice(b"\n")?;
-    Ok(line)
-}
-
-fn memory_line(heap: Global) -> Result<Vec<u8>, AllocError>
-    ensures { IfOk result (λ s. s.items ≡ fault_line Memory) }
-{
-    let mut line = Vec::new(heap);
-    line.extend_from_slice(b"NO MEMORY\n")?;
-    Ok(line)
+    let text = format!(in alloc; "{fault}\n")?;
+    Ok(text.into_bytes())
 }

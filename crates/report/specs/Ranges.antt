@@ -1,29 +1,22 @@
 -- The report of a run: the verdict, how many boxes were settled and why it stopped, then the feasible, undecided and pending boxes.
 use Rattle.std.specs.Prelude.{ℕ, List, [], ◌∷◌, ◌++◌, take, codes, decimal}
 use Rattle.std.specs.List.{flat_map}
-use Rattle.std.specs.Fmt.{signed_decimal}
 use Rattle.span.specs.declared.shape.Span.{Span}
 use Rattle.span.specs.declared.region.Region.{Region}
+use Rattle.span.specs.Text.{span_text}
 use Rattle.sheet.specs.declared.variable.Variable.{Variable}
 use Rattle.sheet.specs.Held.{name_is}
 use Rattle.runlaw.specs.declared.shape.Verdict.{Verdict}
-use Rattle.runlaw.specs.declared.shape.Verdict.TheVariants.{Some, Unfinished, Unsure, None}
 use Rattle.runlaw.specs.declared.shape.Cause.{Cause}
-use Rattle.runlaw.specs.declared.shape.Cause.TheVariants.{Small, Crowded}
 use Rattle.runlaw.specs.declared.shape.Filed.{Filed}
-
-abbrev pub verdict_word : Verdict → List ℕ
-verdict_word Some = codes "SOME"
-verdict_word Unfinished = codes "UNFINISHED"
-verdict_word Unsure = codes "UNSURE"
-verdict_word None = codes "NONE"
+use Rattle.runlaw.specs.Words.{verdict_word, cause_word}
 
 abbrev pub head_line : Verdict → ℕ → ℕ → List ℕ
 head_line v steps stop = codes "VERDICT " ++ (verdict_word v ++ (codes " STEPS " ++ (decimal steps ++ (codes " STOP " ++ decimal stop))))
 
 -- =lo..hi
 abbrev pub ends_text : Span → List ℕ
-ends_text s = codes "=" ++ (signed_decimal s.lo ++ (codes ".." ++ signed_decimal s.hi))
+ends_text s = codes "=" ++ span_text s
 
 -- a variable's range, behind a space: name=lo..hi
 abbrev pub range_text : Variable → Span → List ℕ
@@ -39,8 +32,7 @@ abbrev pub box_text : List ℕ → List Variable → Region → List ℕ
 box_text letter vs b = letter ++ ranges_text vs (take b.n b.spans)
 
 abbrev pub cause_text : Cause → List ℕ
-cause_text Small = codes " SMALL\n"
-cause_text Crowded = codes " CROWDED\n"
+cause_text c = codes " " ++ (cause_word c ++ codes "\n")
 
 -- the lines, each with its newline
 abbrev pub box_line : List ℕ → List Variable → Region → List ℕ

@@ -2,16 +2,17 @@
 use Rattle.std.specs.Prelude.{ℕ, zero, suc, ◌+◌, List, [], ◌∷◌, ◌++◌, length, ℤ, codes, decimal}
 use Rattle.std.specs.Fmt.{signed_decimal}
 use Rattle.span.specs.declared.region.Region.{Region}
+use Rattle.span.specs.Text.{span_text}
 use Rattle.sheet.specs.declared.system.System.{System}
-use Rattle.enclosure.specs.declared.shape.NominalReach.{NominalReach}
-use Rattle.enclosure.specs.declared.shape.NominalReach.TheVariants.{Open, Closed}
+use Rattle.enclosure.specs.Results.{NominalReach}
+use Rattle.span.specs.declared.shape.Reach.TheVariants.{Open, Closed}
 use Rattle.enclosure.specs.Rows.{numbers, row_terms}
 use Rattle.enclosure.specs.Sound.{nominal_row}
 
 -- i: the row's number, from 1
 abbrev pub row_line : ℕ → NominalReach → List ℕ
 row_line i Open = codes "R " ++ (decimal i ++ codes " OPEN")
-row_line i (Closed a) = codes "R " ++ (decimal i ++ (codes " " ++ (signed_decimal a.span.lo ++ (codes ".." ++ (signed_decimal a.span.hi ++ (codes " " ++ signed_decimal a.nominal))))))
+row_line i (Closed a) = codes "R " ++ (decimal i ++ (codes " " ++ (span_text a.span ++ (codes " " ++ signed_decimal a.nominal))))
 
 -- the nominal span of row i, counted from 0, over a box with a number inside each span
 abbrev pub nominal_of : System → Region → List ℤ → ℕ → NominalReach

@@ -6,6 +6,9 @@ use Rattle.numbers.specs.Ends.{Ends}
 use Rattle.numbers.specs.Ends as E
 use Rattle.span.specs.Holding.{ends}
 
+abbrev pub HoldsZero : Span → Type 0
+HoldsZero s = (s.lo ≤ℤ pos 0) × (pos 0 ≤ℤ s.hi)
+
 -- a span that lies above 0 or below 0 does not hold 0
 pub data Side (t : Span) : Type 0 where
   above : pos 0 <ℤ t.lo → Side t

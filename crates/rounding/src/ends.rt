@@ -3,8 +3,7 @@ ghost use Rattle.std.specs.Int.{int_min, int_max};
 ghost use Rattle.numbers.specs.Rounding.{floor, ceil, floor_by, ceil_by, least, greatest};
 ghost use Rattle.numbers.specs.Ends.{sum, difference, product};
 ghost use Rattle.span.specs.Holding.{ends};
-ghost use Rattle.rounding.specs.Sides.{ratio, side, paired};
-ghost use Rattle.rounding.specs.Bounds.{Small, Divisor, Apart};
+ghost use Rattle.rounding.specs.Sides.{HoldsZero, ratio, side, paired};
 
 use span::shape::Span;
 
@@ -12,20 +11,23 @@ use span::shape::Span;
 fn add(a: i32, b: i32) -> i64
     ensures { result ≡ a +ℤ b }
 {
-    a as i64 + b as i64
+    i64::from(a) + i64::from(b)
 }
 
 fn subtract(a: i32, b: i32) -> i64
     ensures { result ≡ a -ℤ b }
 {
-    a as i64 - b as i64
+    i64::from(a) - i64::from(b)
 }
 
 fn multiply(a: i32, b: i32) -> i64
     ensures { result ≡ a *ℤ b }
 {
-    a as i64 * b as i64
+    i64::from(a) * i64::from(b)
 }
+
+// Least and greatest stand in pairs, here and below: one function for both would take the order as an argument,
+// and each answer would first have to say which of the two it is.
 
 // The less of the products of a with the ends of b.
 fn less(a: i32, b: Span) -> i64
@@ -74,27 +76,43 @@ fn ceil_units(z: i64) -> i64
     -(-z >> 16)
 }
 
-/// a × 65536.
-fn scaled(a: i32) -> i64
-    ensures value { result ≡ a *ℤ pos 65536 }
-    ensures small { Small result }
-{
-    a as i64 * 65536
-}
-
 // Whether a span holds 0.
 fn holds_zero(s: Span) -> bool
-    ensures { Decides result ((s.lo ≤ℤ pos 0) × (pos 0 ≤ℤ s.hi)) }
+    ensures { Decides result (HoldsZero s) }
 {
     s.lo <= 0 && 0 <= s.hi
 }
 
-/// p / q rounded down.
-fn floor_by(p: i64, q: i64) -> i64
-    requires small { Small p }
-    requires divisor { Divisor q }
-    ensures { result ≡ floor_by p q }
+// A span to divide by: it does not hold 0.
+#[derive(Clone, Copy)]
+struct Divisor {
+    span: Span,
+    ghost apart: { HoldsZero span → ⊥ },
+}
+
+impl Divisor {
+    ghost use Rattle.std.specs.Prelude.{◌≡◌, MatchOption};
+    ghost use Rattle.rounding.specs.Sides.{HoldsZero};
+
+    // None where the span holds 0.
+    fn of(span: Span) -> Option<Divisor>
+        ensures { MatchOption result (HoldsZero span) (λ d. d.span ≡ span) }
+    {
+        if holds_zero(span) {
+            None
+        } else {
+            Some(Divisor { span })
+        }
+    }
+}
+
+// a × 65536 / q rounded down.
+fn floor_ratio(a: i32, q: i32) -> i64
+    requires { q ≡ pos 0 → ⊥ }
+    ensures { result ≡ floor_by (a *ℤ pos 65536) q }
 {
+    let p = i64::from(a) * 65536;
+    let q = i64::from(q);
     if q > 0 {
         p.div_euclid(q)
     } else {
@@ -102,12 +120,13 @@ fn floor_by(p: i64, q: i64) -> i64
     }
 }
 
-/// p / q rounded up.
-fn ceil_by(p: i64, q: i64) -> i64
-    requires small { Small p }
-    requires divisor { Divisor q }
-    ensures { result ≡ ceil_by p q }
+// a × 65536 / q rounded up.
+fn ceil_ratio(a: i32, q: i32) -> i64
+    requires { q ≡ pos 0 → ⊥ }
+    ensures { result ≡ ceil_by (a *ℤ pos 65536) q }
 {
+    let p = i64::from(a) * 65536;
+    let q = i64::from(q);
     if q > 0 {
         -((-p).div_euclid(q))
     } else {
@@ -115,41 +134,39 @@ fn ceil_by(p: i64, q: i64) -> i64
     }
 }
 
-// The less of the quotients of p by the ends of b, rounded down.
-fn less_quotient(p: i64, b: Span) -> i64
-    requires small { Small p }
-    requires apart { Apart b }
-    ensures { result ≡ int_min (floor_by p b.lo) (floor_by p b.hi) }
+// The less of the quotients of a by the ends of b, rounded down.
+fn less_quotient(a: i32, b: Divisor) -> i64
+    ensures { result ≡ int_min (floor_by (a *ℤ pos 65536) b.span.lo) (floor_by (a *ℤ pos 65536) b.span.hi) }
 {
-    floor_by(p, b.lo as i64).min(floor_by(p, b.hi as i64))
+    let p = floor_ratio(a, b.span.lo);
+    let q = floor_ratio(a, b.span.hi);
+    p.min(q)
 }
 
 // The greater of them, rounded up.
-fn greater_quotient(p: i64, b: Span) -> i64
-    requires small { Small p }
-    requires apart { Apart b }
-    ensures { result ≡ int_max (ceil_by p b.lo) (ceil_by p b.hi) }
+fn greater_quotient(a: i32, b: Divisor) -> i64
+    ensures { result ≡ int_max (ceil_by (a *ℤ pos 65536) b.span.lo) (ceil_by (a *ℤ pos 65536) b.span.hi) }
 {
-    ceil_by(p, b.lo as i64).max(ceil_by(p, b.hi as i64))
+    let p = ceil_ratio(a, b.span.lo);
+    let q = ceil_ratio(a, b.span.hi);
+    p.max(q)
 }
 
 // The least of the four quotients of ends, rounded down.
-fn least_quotient(a: Span, b: Span) -> i64
-    requires { Apart b }
-    ensures { result ≡ least (floor_by (a.lo *ℤ pos 65536) b.lo) (floor_by (a.lo *ℤ pos 65536) b.hi) (floor_by (a.hi *ℤ pos 65536) b.lo) (floor_by (a.hi *ℤ pos 65536) b.hi) }
+fn least_quotient(a: Span, b: Divisor) -> i64
+    ensures { result ≡ least (floor_by (a.lo *ℤ pos 65536) b.span.lo) (floor_by (a.lo *ℤ pos 65536) b.span.hi) (floor_by (a.hi *ℤ pos 65536) b.span.lo) (floor_by (a.hi *ℤ pos 65536) b.span.hi) }
 {
-    let p = less_quotient(scaled(a.lo), b);
-    let q = less_quotient(scaled(a.hi), b);
+    let p = less_quotient(a.lo, b);
+    let q = less_quotient(a.hi, b);
     p.min(q)
 }
 
 // The greatest of them, rounded up.
-fn greatest_quotient(a: Span, b: Span) -> i64
-    requires { Apart b }
-    ensures { result ≡ greatest (ceil_by (a.lo *ℤ pos 65536) b.lo) (ceil_by (a.lo *ℤ pos 65536) b.hi) (ceil_by (a.hi *ℤ pos 65536) b.lo) (ceil_by (a.hi *ℤ pos 65536) b.hi) }
+fn greatest_quotient(a: Span, b: Divisor) -> i64
+    ensures { result ≡ greatest (ceil_by (a.lo *ℤ pos 65536) b.span.lo) (ceil_by (a.lo *ℤ pos 65536) b.span.hi) (ceil_by (a.hi *ℤ pos 65536) b.span.lo) (ceil_by (a.hi *ℤ pos 65536) b.span.hi) }
 {
-    let p = greater_quotient(scaled(a.lo), b);
-    let q = greater_quotient(scaled(a.hi), b);
+    let p = greater_quotient(a.lo, b);
+    let q = greater_quotient(a.hi, b);
     p.max(q)
 }
 
@@ -184,9 +201,7 @@ pub fn product_ends(a: Span, b: Span) -> (i64, i64)
 pub fn quotient_ends(a: Span, b: Span) -> Option<(i64, i64)>
     ensures { paired result ≡ ratio a b (side b) }
 {
-    if holds_zero(b) {
-        return None;
-    }
+    let b = Divisor::of(b)?;
     Some((least_quotient(a, b), greatest_quotient(a, b)))
 }
 

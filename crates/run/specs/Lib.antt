@@ -1,3 +1,4 @@
 pub mod Hands
 pub mod Numbers
 pub mod Runs
+pub mod Filing

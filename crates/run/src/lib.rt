@@ -4,6 +4,7 @@
 
 #![tactic(auto)]
 
-pub mod desk;
+pub mod lists;
+pub mod method;
 pub mod run;
 pub mod shape;

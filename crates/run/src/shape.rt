@@ -19,6 +19,7 @@ impl Unsettled {
     pub fn number(&self) -> usize
         ensures { result ≡ settle_number self.now }
     {
+        // no discriminants: one of them carries the ticket
         match self {
             Unsettled::EmptyHand(_) => 24,
             Unsettled::FeasibleFull => 25,

@@ -1,4 +1,5 @@
 pub mod Numbers
+pub mod Words
 pub mod Sizes
 pub mod Laws
 pub mod Steps

@@ -3,7 +3,7 @@ ghost use Rattle.runlaw.specs.Laws.{judging};
 
 use enclosure::enclosure::Enclosure;
 use enclosure::judge::judge;
-use enclosure::shape::Judgement;
+use enclosure::shape::{Judgement, Marked};
 use sheet::system::System;
 use span::region::Region;
 
@@ -11,6 +11,5 @@ use span::region::Region;
 pub fn judge_at_middles<E: Enclosure>(system: &System, b: &Region) -> Judgement
     ensures { result ≡ judging E.Enclosure system.now b.now }
 {
-    let inside = b.middles();
-    judge::<E>(system, b, &inside)
+    judge::<E>(system, &Marked::at_middles(b))
 }

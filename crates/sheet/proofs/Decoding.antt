@@ -1,17 +1,16 @@
 -- What the decoded parts of a field hold, in the words of the format.
-use Rattle.std.proofs.Common.{◌≡◌, ℕ, zero, suc, ◌+◌, ◌-◌, Bool, true, false, cond, List, [], ◌∷◌, ◌++◌, length, take, replicate, ℤ, ◌≤ℤ◌, ◌<ℤ◌, Some, None, sym, refl, ap, ◌∙◌, subst, arith, w32, SFits, to_z, of_z}
+use Rattle.std.proofs.Common.{◌≡◌, ℕ, zero, suc, ◌+◌, ◌-◌, ◌≤◌, Bool, true, false, cond, List, [], ◌∷◌, ◌++◌, length, replicate, ℤ, ◌≤ℤ◌, ◌<ℤ◌, Some, None, sym, refl, ap, ◌∙◌, subst, arith, w32, SFits, to_z, of_z}
 use borrow.Author.Differences.{ints}
-use Rattle.std.proofs.lemmas.List.{take_at}
 use Rattle.numbers.specs.Rows.{degree}
 use Rattle.format.specs.Content.{GivenVariable}
 use Rattle.format.specs.Reading.{are_letters, good_variable}
-use Rattle.std.proofs.lemmas.Bool.{both_ways}
+use Rattle.std.proofs.lemmas.Bool.{both_ways, le-leb}
 use Rattle.span.specs.declared.shape.Span.{Span}
-use Rattle.span.specs.Making.{Count, made}
-use Rattle.span.proofs.Alike.{made_is}
+use Rattle.span.specs.Making.{Count, Fit, made}
+use Rattle.span.proofs.Alike.{made_is, none_made}
 use Rattle.std.proofs.lemmas.Int.{to_z-of_z}
 use Rattle.format.proofs.Decide.{Told, decides_letters, decides_variable, false_from}
-use Rattle.sheet.specs.Held.{widened}
+use Rattle.sheet.specs.Held.{widened, is_name}
 
 degree_zeros : (k : ℕ) → degree (replicate k 0) ≡ 0
 degree_zeros zero = refl
@@ -23,9 +22,6 @@ degree_append (x ∷ xs) ys = let e = degree_append xs ys in omega arith
 
 pub degree_widened : (xs : List ℕ) → degree (widened xs) ≡ degree xs
 degree_widened xs = let e = degree_append xs (replicate (8 - length xs) 0) in let z = degree_zeros (8 - length xs) in omega arith
-
-pub name_read : (xs ys : List ℕ) → ys ≡ widened xs → true ≡ are_letters xs → Some (take (length xs) ys) ≡ cond (are_letters xs) (Some xs) None
-name_read xs ys e l = ap Some (ap (take (length xs)) e ∙ take_at xs (replicate (8 - length xs) 0) (length xs) refl) ∙ ap (λ (b : Bool). cond b (Some xs) None) l
 
 -- out of range: one of the facts that the test is for fails
 pub variable_out : (g : GivenVariable) → ¬ (Told g) → None ≡ cond (good_variable g) (Some g) None
@@ -67,7 +63,22 @@ module _ (g : GivenVariable) (s : Span) (n : ℤ) (lo-is : s.lo ≡ g.lo) (hi-is
       (subst Count lo-is lows, (subst Count hi-is highs, (subst Count n-is mids, (rw (← lo-is, ← n-is) h, (rw (← hi-is, ← n-is) k, (decides_letters g.name).0 (cond_some (are_letters g.name) g.name m e).0)))))
 
 -- the ends of a span that was made of two counts
-pub ends_made : (s : Span) (a b x y : ℤ) → SFits w32 a → SFits w32 b → Some s ≡ made (to_z w32 (of_z w32 a)) (to_z w32 (of_z w32 b)) → a ≡ x → b ≡ y → (s.lo ≡ x) × (s.hi ≡ y)
+pub ends_made : (s : Span) (a b x y : ℤ) → SFits w32 a → SFits w32 b → Some s ≡ made (to_z w32 (of_z w32 a)) (to_z w32 (of_z w32 b)) → a ≡ x → b ≡ y → (s.lo ≡ x) × (s.hi ≡ y) × Fit x y
 ends_made s a b x y f g e p q =
-    let m = made_is (to_z w32 (of_z w32 a)) (to_z w32 (of_z w32 b)) s (sym e) in
-    (m.0 ∙ to_z-of_z w32 a f ∙ p, m.1 ∙ to_z-of_z w32 b g ∙ q)
+    let u : to_z w32 (of_z w32 a) ≡ x = to_z-of_z w32 a f ∙ p in
+    let v : to_z w32 (of_z w32 b) ≡ y = to_z-of_z w32 b g ∙ q in
+    made_is x y s (sym (e ∙ (λ i. made (u i) (v i))))
+
+-- no span was made of them
+pub ends_bad : (a b x y : ℤ) → SFits w32 a → SFits w32 b → None ≡ made (to_z w32 (of_z w32 a)) (to_z w32 (of_z w32 b)) → a ≡ x → b ≡ y → ¬ (Fit x y)
+ends_bad a b x y f g e p q =
+    let u : to_z w32 (of_z w32 a) ≡ x = to_z-of_z w32 a f ∙ p in
+    let v : to_z w32 (of_z w32 b) ≡ y = to_z-of_z w32 b g ∙ q in
+    none_made x y (sym (e ∙ (λ i. made (u i) (v i))))
+
+pub span_missing : (g : GivenVariable) → ¬ (Fit g.lo g.hi) → ¬ (Told g)
+span_missing g n t = n (record { ordered = let a : g.lo ≤ℤ g.nominal = t.1.1.1.0 in let b : g.nominal ≤ℤ g.hi = t.1.1.1.1.0 in omega (arith, ints); least = t.0.0; most = t.1.0.1 })
+
+-- 1 to 8 bytes are a name if they are letters
+pub name_letters : (m : List ℕ) → 1 ≤ length m → length m ≤ 8 → is_name m ≡ are_letters m
+name_letters m h k = rw (le-leb 1 (length m) h, le-leb (length m) 8 k)

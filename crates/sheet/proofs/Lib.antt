@@ -1,6 +1,4 @@
 pub mod Decoding
-pub mod Heads
-pub mod Loops
 pub mod Filled
 pub mod Steps
 pub mod Taking

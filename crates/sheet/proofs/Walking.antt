@@ -12,30 +12,25 @@ use Rattle.format.specs.Fields.{Cut, read_field}
 use Rattle.format.specs.Reading.{Draft, start, variables, tolerance, row, terms, variable_count, Step, goes_on, ends, stops, step, ended, after_step, after_field, whole}
 use Rattle.sheet.specs.Gathering.{Holds, Takes}
 use Rattle.sheet.specs.Walk.{ContentSays, Leads}
+use Rattle.sheet.proofs.Filled.{variables_held}
 use Rattle.format.proofs.Cuts.{whole_is, length_cut}
 
-pub holds_count : (g : Gathered) (d : Draft) → Holds g d → g.n ≡ variable_count d
-holds_count g start h = h.1.n
-holds_count g (variables vs) h = h.1.n
-holds_count g (tolerance vs t) h = h.1.n
-holds_count g (row vs t rs k) h = h.1.held.n
-holds_count g (terms vs t rs k ts) h = h.1.held.n
-
-pub holds_few : (g : Gathered) (d : Draft) → Holds g d → g.n ≤ 8
-holds_few g start h = let e = h.1.n in let f = h.1.few in omega arith
-holds_few g (variables vs) h = let e = h.1.n in let f = h.1.few in omega arith
-holds_few g (tolerance vs t) h = let e = h.1.n in let f = h.1.few in omega arith
-holds_few g (row vs t rs k) h = let e = h.1.held.n in let f = h.1.held.few in omega arith
-holds_few g (terms vs t rs k ts) h = let e = h.1.held.n in let f = h.1.held.few in omega arith
+pub holds_count : (g : Gathered) (d : Draft) → Holds g d → length g.heading.variables.items ≡ variable_count d
+holds_count g start h = variables_held g [] [] h.1
+holds_count g (variables vs) h = variables_held g vs [] h.1
+holds_count g (tolerance vs t) h = variables_held g vs [] h.1
+holds_count g (row vs t rs k) h = variables_held g vs _ h.1
+holds_count g (terms vs t rs k ts) h = variables_held g vs _ h.1
 
 says_err : (e : SheetFault) (r : Result Content SheetFault) → Err e ≡ r → ContentSays (Err e) r
 says_err e r h = subst (ContentSays (Err e)) h refl
 
-module _ (g : Gathered) (p : ℕ) (rest : List ℕ) (r : Result Content SheetFault) (l : Leads g p rest r) where
-  goes : (c : Result Cut FieldFault) → c ≡ read_field g.n p rest → after_field whole p l.d c ≡ r
-  goes c e = ap (after_field whole p l.d) (e ∙ ap (λ (m : ℕ). read_field m p rest) (holds_count g l.d l.holds)) ∙ sym (whole_is p rest l.d) ∙ l.to
+-- n: how many variables were read
+module _ (g : Gathered) (p : ℕ) (rest : List ℕ) (r : Result Content SheetFault) (l : Leads g p rest r) (n : ℕ) (n-is : n ≡ length g.heading.variables.items) where
+  goes : (c : Result Cut FieldFault) → c ≡ read_field n p rest → after_field whole p l.d c ≡ r
+  goes c e = ap (after_field whole p l.d) (e ∙ ap (λ (m : ℕ). read_field m p rest) (n-is ∙ holds_count g l.d l.holds)) ∙ sym (whole_is p rest l.d) ∙ l.to
 
-  pub leads_fault : (f : FieldFault) → Err f ≡ read_field g.n p rest → ContentSays (Err (Field f)) r
+  pub leads_fault : (f : FieldFault) → Err f ≡ read_field n p rest → ContentSays (Err (Field f)) r
   leads_fault f e = says_err (Field f) r (goes (Err f) e)
 
 module _ (h : Gathered) (q : ℕ) (rest : List ℕ) (r : Result Content SheetFault) where
@@ -68,15 +63,15 @@ module _ (h : Gathered) (q : ℕ) (rest : List ℕ) (r : Result Content SheetFau
   step_trailing (stops f) t e z = absurd t
 
 -- all is the sheet's length, and the place what was read of it
-module _ (g h : Gathered) (all : ℕ) (rest : List ℕ) (r : Result Content SheetFault) (l : Leads g (all - length rest) rest r) (within : length rest ≤ all) (x : Cut) (e : Ok x ≡ read_field g.n (all - length rest) rest) where
+module _ (g h : Gathered) (all : ℕ) (rest : List ℕ) (r : Result Content SheetFault) (l : Leads g (all - length rest) rest r) (within : length rest ≤ all) (n : ℕ) (n-is : n ≡ length g.heading.variables.items) (x : Cut) (e : Ok x ≡ read_field n (all - length rest) rest) where
   next_place : (all - length rest) + (3 + length x.content) ≡ all - length x.rest
-  next_place = let m = length_cut g.n (all - length rest) rest x (sym e) in omega arith
+  next_place = let m = length_cut n (all - length rest) rest x (sym e) in omega arith
 
   to_next : after_step whole (all - length x.rest) x.rest (step l.d (all - length rest) x.kind x.content) ≡ r
-  to_next = ap (λ (q : ℕ). after_step whole q x.rest (step l.d (all - length rest) x.kind x.content)) (sym next_place) ∙ goes g (all - length rest) rest r l (Ok x) e
+  to_next = ap (λ (q : ℕ). after_step whole q x.rest (step l.d (all - length rest) x.kind x.content)) (sym next_place) ∙ goes g (all - length rest) rest r l n n-is (Ok x) e
 
   pub shorter_next : length x.rest < length rest
-  shorter_next = let m = length_cut g.n (all - length rest) rest x (sym e) in omega arith
+  shorter_next = let m = length_cut n (all - length rest) rest x (sym e) in omega arith
 
   pub leads_more : ((d : Draft) → Holds g d → Takes (Ok More) h (step d (all - length rest) x.kind x.content)) → Leads h (all - length x.rest) x.rest r
   leads_more t = step_more h (all - length x.rest) x.rest r (step l.d (all - length rest) x.kind x.content) (t l.d l.holds) to_next

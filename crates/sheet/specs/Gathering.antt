@@ -1,5 +1,5 @@
 -- What the code has gathered, and the draft that it stands for.
-use Rattle.std.specs.Prelude.{◌≡◌, ℕ, ◌≤◌, List, [], map, length, take, Some, None, Ok, Err, Option, Result}
+use Rattle.std.specs.Prelude.{◌≡◌, ℕ, ◌≤◌, List, [], map, length, Some, None, Ok, Err, Option, Result}
 use Rattle.std.specs.List.{AllByRecursion, flat_map}
 use Rattle.format.specs.declared.fault.SheetFault.{SheetFault}
 use Rattle.sheet.specs.declared.shape.Row.{Row}
@@ -9,7 +9,7 @@ use Rattle.sheet.specs.declared.gather.Progress.TheVariants.{More, Done}
 use Rattle.sheet.specs.declared.gather.State.{State}
 use Rattle.sheet.specs.declared.gather.State.TheVariants.{Start, Variables, Tolerance, Row as AtRow, Terms}
 use Rattle.numbers.specs.Rows.{Term as GivenTerm}
-use Rattle.format.specs.Content.{GivenVariable, GivenRow, Limits, Content, term_total}
+use Rattle.format.specs.Content.{GivenVariable, GivenRow, Limits, Content}
 use Rattle.format.specs.Written.{FieldKind, a_variable, a_tolerance, a_row, a_term, an_end}
 use Rattle.format.specs.Reading.{Draft, start, variables, tolerance, row, terms, Step, goes_on, ends, stops, closed}
 use Rattle.sheet.specs.Held.{variable_is, bounds_is, term_is, padded}
@@ -66,23 +66,16 @@ terms_of rs = flat_map row_terms rs
 
 -- the variables are vs, and the rows rs
 pub record Held (g : Gathered) (vs : List GivenVariable) (rs : List GivenRow) : Type 0 where
-  pub n : g.n ≡ length vs
   pub few : length vs ≤ 8
-  pub variables : map variable_is (take g.n g.variables) ≡ vs
-  pub variable_places : length g.variables ≡ 8
-  pub rowcount : g.rowcount ≡ length rs
+  pub variables : map variable_is g.heading.variables.items ≡ vs
   pub few_rows : length rs ≤ 16
-  pub rows : map row_is (take g.rowcount g.rows) ≡ heads_of rs
-  pub row_places : length g.rows ≡ 16
+  pub rows : map row_is g.rows.items ≡ heads_of rs
   pub short : AllByRecursion (λ r. length r.terms ≤ 12) rs
-  pub termcount : g.termcount ≡ term_total rs
-  pub terms : map term_is (take g.termcount g.terms) ≡ terms_of rs
-  pub term_places : length g.terms ≡ 192
+  pub terms : map term_is g.terms.items ≡ terms_of rs
 
 -- the last row is of kind k, with the terms ts so far
-pub record HeldOpen (g : Gathered) (vs : List GivenVariable) (rs : List GivenRow) (k : Limits) (ts : List GivenTerm) : Type 0 where
-  pub held : Held g vs (closed rs k ts)
-  pub own : g.own ≡ length ts
+abbrev pub HeldOpen : Gathered → List GivenVariable → List GivenRow → Limits → List GivenTerm → Type 0
+HeldOpen g vs rs k ts = Held g vs (closed rs k ts)
 
 pub record Open (g : Gathered) : Type 0 where
   pub vs : List GivenVariable
@@ -94,9 +87,9 @@ pub record Open (g : Gathered) : Type 0 where
 abbrev pub Holds : Gathered → Draft → Type 0
 Holds g start = (g.state ≡ Start) × Held g [] []
 Holds g (variables vs) = (g.state ≡ Variables) × Held g vs []
-Holds g (tolerance vs t) = (g.state ≡ Tolerance) × Held g vs [] × (g.tolerance ≡ t)
-Holds g (row vs t rs k) = (g.state ≡ AtRow) × HeldOpen g vs rs k [] × (g.tolerance ≡ t)
-Holds g (terms vs t rs k ts) = (g.state ≡ Terms) × HeldOpen g vs rs k ts × (g.tolerance ≡ t)
+Holds g (tolerance vs t) = (g.state ≡ Tolerance) × Held g vs [] × (g.heading.tolerance ≡ t)
+Holds g (row vs t rs k) = (g.state ≡ AtRow) × HeldOpen g vs rs k [] × (g.heading.tolerance ≡ t)
+Holds g (terms vs t rs k ts) = (g.state ≡ Terms) × HeldOpen g vs rs k ts × (g.heading.tolerance ≡ t)
 
 -- the code went on to what holds the draft that the step goes on to, or stopped with the step's fault
 abbrev pub Goes : Result (Unit {0}) SheetFault → Gathered → Step → Type 0
@@ -115,7 +108,7 @@ pub record Drafted (g : Gathered) : Type 0 where
 -- the whole content is held
 pub record HoldsAll (g : Gathered) (c : Content) : Type 0 where
   pub held : Held g c.variables c.rows
-  pub tolerance : g.tolerance ≡ c.tolerance
+  pub tolerance : g.heading.tolerance ≡ c.tolerance
 
 abbrev pub Takes : Result Progress SheetFault → Gathered → Step → Type 0
 Takes (Ok More) g (goes_on d) = Holds g d

@@ -1,8 +1,10 @@
 -- What the code holds of a sheet, in the words of its content.
-use Rattle.std.specs.Prelude.{ℕ, ◌-◌, Bool, cond, ◌&&◌, List, ◌++◌, length, take, replicate, Some, None, Option, nat_le}
+use Rattle.std.specs.Prelude.{ℕ, ◌-◌, Bool, cond, ◌&&◌, List, ◌++◌, length, replicate, Some, None, Option, nat_le}
 use Rattle.numbers.specs.Rows.{Term as GivenTerm}
 use Rattle.format.specs.Content.{GivenVariable, Limits, at_least, at_most, between}
 use Rattle.format.specs.Reading.{are_letters, good_limits}
+use Rattle.sheet.specs.declared.content.Asked.{Asked}
+use Rattle.sheet.specs.declared.content.Asked.TheVariants.{AtLeast as AskedAtLeast, AtMost as AskedAtMost, Between as AskedBetween}
 use Rattle.sheet.specs.declared.shape.Bounds.{Bounds}
 use Rattle.sheet.specs.declared.shape.Bounds.TheVariants.{AtLeast, AtMost, Between}
 use Rattle.sheet.specs.declared.shape.Term.{Term}
@@ -10,7 +12,7 @@ use Rattle.sheet.specs.declared.variable.Name.{Name}
 use Rattle.sheet.specs.declared.variable.Variable.{Variable}
 
 abbrev pub name_is : Name → List ℕ
-name_is n = take n.len n.bytes
+name_is n = n.bytes.items
 
 abbrev pub variable_is : Variable → GivenVariable
 variable_is v = record { lo = v.span.lo; hi = v.span.hi; nominal = v.nominal; name = name_is v.name }
@@ -19,6 +21,11 @@ abbrev pub bounds_is : Bounds → Limits
 bounds_is (AtLeast lo) = at_least lo
 bounds_is (AtMost hi) = at_most hi
 bounds_is (Between s) = between s.lo s.hi
+
+abbrev pub asked_is : Asked → Limits
+asked_is (AskedAtLeast lo) = at_least lo
+asked_is (AskedAtMost hi) = at_most hi
+asked_is (AskedBetween lo hi) = between lo hi
 
 -- with zeros up to eight
 abbrev pub widened : List ℕ → List ℕ

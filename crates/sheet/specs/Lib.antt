@@ -1,5 +1,6 @@
 pub mod Says
 pub mod Held
+pub mod Words
 pub mod Gathering
 pub mod Walk
 pub mod Sheets

@@ -1,5 +1,6 @@
 -- What a sheet holds after a call of read.
-use Rattle.std.specs.Prelude.{◌≡◌, ℕ, ◌-◌, List, ◌++◌, map, length, take, replicate, ℤ, Ok, Err, Result}
+use Rattle.std.specs.Prelude.{◌≡◌, ℕ, ◌-◌, List, ◌++◌, map, length, replicate, ℤ, Ok, Err, Result}
+use Rattle.std.specs.Borrow.{Bor}
 use Rattle.list.specs.Lists.{items, room}
 use Rattle.span.specs.declared.shape.Span.{Span}
 use Rattle.format.specs.declared.fault.SheetFault.{SheetFault}
@@ -12,11 +13,10 @@ use Rattle.sheet.specs.Gathering.{row_is, heads_of, terms_of}
 
 -- the variables that a sheet holds
 abbrev pub variables_of : Sheet → List Variable
-variables_of s = take s.heading.n s.heading.variables
+variables_of s = s.heading.variables.items
 
 -- s held what it held, t holds the content c in the same places
 pub record Replaced (s t : Sheet) (c : Content) : Type 0 where
-  pub n : t.heading.n ≡ length c.variables
   pub variables : map variable_is (variables_of t) ≡ c.variables
   pub tolerance : t.heading.tolerance ≡ c.tolerance
   pub rows : map row_is (items t.rows) ≡ heads_of c.rows
@@ -46,3 +46,7 @@ nominal_of v = v.nominal
 -- in the first of eight places, and z in the others
 abbrev pub filled : {A : Type 0} → A → List A → List A
 filled z xs = xs ++ replicate (8 - length xs) z
+
+-- filled with what a call takes from each variable, by whatever function of the variable it takes
+abbrev pub FilledBy : {T : Type 0} → (Bor Variable → T → Type 0) → T → List Variable → List T → Type 0
+FilledBy {T} takes z vs xs = (f : Variable → T) → ((v : Bor Variable) (x : T) → takes v x → x ≡ f v.now) → xs ≡ filled z (map f vs)

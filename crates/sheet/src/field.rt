@@ -1,11 +1,54 @@
-ghost use Rattle.std.specs.Prelude.{◌≡◌, ℕ, List, IfOk};
+ghost use Rattle.std.specs.Prelude.{◌≡◌, ◌++◌, ℕ, List, Some, codes, decimal, IfOk};
 ghost use Rattle.format.specs.Fields.{read_field, kinded, kind_of};
-ghost use Rattle.sheet.specs.Says.{cut_says, sort_says};
+ghost use Rattle.sheet.specs.Says.{kind_is, tag_kind, TagOf, cut_says, sort_says};
 
 use format::fault::FieldFault;
+use std::error::Error;
+use std::fmt;
 
-// A field: what stands behind its tag and length, as a part of the sheet.
-#[derive(Clone, Copy)]
+/// The byte in front of a field, which says what kind of field it is.
+#[derive(Clone, Copy, Debug, PartialEq, Eq)]
+pub enum Tag {
+    Variable = 1,
+    Row = 2,
+    Term = 3,
+    Tolerance = 4,
+    End = 9,
+}
+
+/// A byte that is no field's tag.
+#[derive(Clone, Copy, Debug, PartialEq, Eq)]
+pub struct UnknownTag(pub u8);
+
+impl TryFrom<u8> for Tag {
+    type Error = UnknownTag;
+
+    ghost try_from_gives = { TagOf };
+
+    fn try_from(byte: u8) -> Result<Tag, UnknownTag> {
+        match byte {
+            1 => Ok(Tag::Variable),
+            2 => Ok(Tag::Row),
+            3 => Ok(Tag::Term),
+            4 => Ok(Tag::Tolerance),
+            9 => Ok(Tag::End),
+            _ => Err(UnknownTag(byte)),
+        }
+    }
+}
+
+impl fmt::Display for UnknownTag {
+    ghost output = { λ e. Some (codes "no kind of field has the tag " ++ decimal e.0) };
+
+    fn fmt<W: fmt::Write>(&self, f: &mut fmt::Formatter<W>) -> fmt::Result {
+        write!(f, "no kind of field has the tag {}", self.0)
+    }
+}
+
+impl Error for UnknownTag {}
+
+/// A field: what stands behind its tag and length, as a part of the sheet.
+#[derive(Clone, Copy, Debug, PartialEq, Eq)]
 pub enum Field<'a> {
     Variable(&'a [u8]),
     Tolerance(&'a [u8]),
@@ -14,8 +57,23 @@ pub enum Field<'a> {
     End,
 }
 
-// A field with its place, the offset of its first byte.
-#[derive(Clone, Copy)]
+impl<'a> Field<'a> {
+    /// The tag that stands in front of it.
+    pub fn tag(&self) -> Tag
+        ensures { tag_kind result ≡ kind_is self.now }
+    {
+        match self {
+            Field::Variable(_) => Tag::Variable,
+            Field::Tolerance(_) => Tag::Tolerance,
+            Field::Row(_) => Tag::Row,
+            Field::Term(_) => Tag::Term,
+            Field::End => Tag::End,
+        }
+    }
+}
+
+/// A field with its place, the offset of its first byte.
+#[derive(Clone, Copy, Debug, PartialEq, Eq)]
 pub struct Placed<'a> {
     pub place: usize,
     pub field: Field<'a>,
@@ -25,44 +83,14 @@ pub struct Placed<'a> {
 fn sort<'a>(n: usize, place: usize, tag: u8, content: &'a [u8]) -> Result<Field<'a>, FieldFault>
     ensures { (rest : List ℕ) → sort_says result rest ≡ kinded n place content.now rest (kind_of tag) }
 {
-    let length = content.len();
-    match tag {
-        1 => {
-            if 13 <= length && length <= 20 {
-                Ok(Field::Variable(content))
-            } else {
-                Err(FieldFault::WrongLength(place))
-            }
-        }
-        4 => {
-            if length == 4 {
-                Ok(Field::Tolerance(content))
-            } else {
-                Err(FieldFault::WrongLength(place))
-            }
-        }
-        2 => {
-            if length == 5 || length == 9 {
-                Ok(Field::Row(content))
-            } else {
-                Err(FieldFault::WrongLength(place))
-            }
-        }
-        3 => {
-            if 4 <= length && length - 4 == n {
-                Ok(Field::Term(content))
-            } else {
-                Err(FieldFault::WrongLength(place))
-            }
-        }
-        9 => {
-            if length == 0 {
-                Ok(Field::End)
-            } else {
-                Err(FieldFault::WrongLength(place))
-            }
-        }
-        _ => Err(FieldFault::UnknownTag(place)),
+    let tag = Tag::try_from(tag).map_err(|_| FieldFault::UnknownTag(place))?;
+    match (tag, content.len()) {
+        (Tag::Variable, 13..=20) => Ok(Field::Variable(content)),
+        (Tag::Tolerance, 4) => Ok(Field::Tolerance(content)),
+        (Tag::Row, 5 | 9) => Ok(Field::Row(content)),
+        (Tag::Term, length) if length.checked_sub(4) == Some(n) => Ok(Field::Term(content)),
+        (Tag::End, 0) => Ok(Field::End),
+        _ => Err(FieldFault::WrongLength(place)),
     }
 }
 
@@ -78,13 +106,10 @@ pub fn read_field<'a>(
     let [tag, high, low, rest @ ..] = bytes else {
         return Err(FieldFault::Short(place));
     };
-    let length = 256 * (*high as usize) + *low as usize;
-    if length > rest.len() {
-        return Err(FieldFault::Short(place));
-    }
-    let (content, after) = rest.split_at(length);
-    match sort(n, place, *tag, content) {
-        Ok(field) => Ok((Placed { place, field }, after)),
-        Err(fault) => Err(fault),
-    }
+    let length = usize::from(u16::from_be_bytes([*high, *low]));
+    let (content, after) = rest
+        .split_at_checked(length)
+        .ok_or(FieldFault::Short(place))?;
+    let field = sort(n, place, *tag, content)?;
+    Ok((Placed { place, field }, after))
 }

@@ -1,17 +1,14 @@
 ghost use Rattle.std.specs.Prelude.{◌≡◌, replicate, pos};
 ghost use Rattle.sheet.specs.declared.shape.Bounds.TheVariants.{AtLeast};
 
-use crate::shape::{Bounds, Row, Term};
+use crate::shape::{Row, Term};
 use crate::system::System;
 
 /// What stands in a row's place before one is read: at least 0, with no term.
 pub fn blank_row() -> Row
     ensures { result ≡ record { bounds = AtLeast (pos 0); own = 0 } }
 {
-    Row {
-        bounds: Bounds::AtLeast(0),
-        own: 0,
-    }
+    Row::default()
 }
 
 /// What stands in a term's place before one is read: 0, with no variable.
@@ -19,10 +16,7 @@ pub fn blank_term() -> Term
     ensures coefficient { result.coefficient ≡ pos 0 }
     ensures exponents { result.exponents ≡ replicate 8 0 }
 {
-    Term {
-        coefficient: 0,
-        exponents: [0; 8],
-    }
+    Term::default()
 }
 
 impl<'s> System<'s> {

@@ -1,21 +1,21 @@
-ghost use Rattle.std.specs.Prelude.{◌≡◌, [], map, length, take, pos};
+ghost use Rattle.std.specs.Prelude.{◌≡◌, [], map, length, pos};
 ghost use Rattle.span.specs.Regions.{nought, boxed};
 ghost use Rattle.list.specs.Lists.{items, room};
 ghost use Rattle.format.specs.Reading.{read_sheet};
-ghost use Rattle.sheet.specs.Sheets.{SheetSays, Means, variables_of, span_of, nominal_of, filled};
+ghost use Rattle.sheet.specs.Sheets.{SheetSays, Means, variables_of, span_of, nominal_of, filled, FilledBy};
 
-use crate::gather::unnamed;
 use crate::heading::Heading;
 use crate::shape::{Row, Term};
 use crate::system::System;
 use crate::variable::Variable;
 use crate::walk::read_content;
+use arrayvec::ArrayVec;
 use format::fault::SheetFault;
 use list::lent::List;
 use span::region::Region;
 use span::shape::Span;
 
-// What the last accepted sheet says: its heading, its rows, and their terms in sheet order. Before one is accepted there is no variable and no row.
+/// What the last accepted sheet says: its heading, its rows, and their terms in sheet order. Before one is accepted there is no variable and no row.
 #[derive(Drop)]
 pub struct Sheet<'a> {
     heading: Heading,
@@ -26,16 +26,12 @@ pub struct Sheet<'a> {
 impl<'a> Sheet<'a> {
     /// A sheet that says nothing yet, over places for rows and terms.
     pub fn over(rows: &'a mut [Row], terms: &'a mut [Term]) -> Sheet<'a>
-        ensures heading { result.heading.n ≡ 0 }
+        ensures heading { variables_of result ≡ [] }
         ensures rows { (items result.rows ≡ []) × (room result.rows ≡ length rows.old) }
         ensures terms { (items result.terms ≡ []) × (room result.terms ≡ length terms.old) }
     {
         Sheet {
-            heading: Heading {
-                n: 0,
-                variables: [unnamed(); 8],
-                tolerance: 0,
-            },
+            heading: Heading::default(),
             rows: List::over(rows),
             terms: List::over(terms),
         }
@@ -50,17 +46,13 @@ impl<'a> Sheet<'a> {
             return Err(SheetFault::TooLong);
         }
         let gathered = read_content(bytes)?;
-        if gathered.rowcount > self.rows.places() || gathered.termcount > self.terms.places() {
+        if gathered.rows.len() > self.rows.places() || gathered.terms.len() > self.terms.places() {
             return Err(SheetFault::NoRoom(bytes.len()));
         }
-        self.heading = Heading {
-            n: gathered.n,
-            variables: gathered.variables,
-            tolerance: gathered.tolerance,
-        };
         // both have the places, so neither refuses
-        let _ = self.rows.replace(&gathered.rows[0..gathered.rowcount]);
-        let _ = self.terms.replace(&gathered.terms[0..gathered.termcount]);
+        let _ = self.rows.replace(gathered.rows.as_slice());
+        let _ = self.terms.replace(gathered.terms.as_slice());
+        self.heading = gathered.heading;
         Ok(())
     }
 
@@ -68,7 +60,7 @@ impl<'a> Sheet<'a> {
     pub fn variables(&self) -> &[Variable]
         ensures { result.now ≡ variables_of self.now }
     {
-        &self.heading.variables[0..self.heading.n]
+        self.heading.variables.as_slice()
     }
 
     /// The tolerance.
@@ -80,12 +72,12 @@ impl<'a> Sheet<'a> {
 
     /// The system of its rows.
     pub fn system(&self) -> System<'_>
-        ensures n { result.n ≡ self.now.heading.n }
+        ensures n { result.n ≡ length (variables_of self.now) }
         ensures rows { result.rows.now ≡ items self.now.rows }
         ensures terms { result.terms.now ≡ items self.now.terms }
     {
         System {
-            n: self.heading.n,
+            n: self.heading.variables.len(),
             rows: self.rows.items(),
             terms: self.terms.items(),
         }
@@ -95,34 +87,32 @@ impl<'a> Sheet<'a> {
     pub fn start(&self) -> Option<Region>
         ensures { result ≡ boxed (map span_of (variables_of self.now)) }
     {
-        let spans = spans_of(&self.heading);
-        Region::new(&spans[0..self.heading.n])
+        let variables = &self.heading.variables;
+        let spans = filled(variables, Span { lo: 0, hi: 0 }, |v| v.span);
+        Region::new(&spans[..variables.len()])
     }
 
     /// The variables' nominal counts, and 0 in the places of variables that are not there.
     pub fn nominals(&self) -> [i32; 8]
         ensures { result ≡ filled (pos 0) (map nominal_of (variables_of self.now)) }
     {
-        nominals_of(&self.heading)
+        filled(&self.heading.variables, 0, |v| v.nominal)
     }
 }
 
-fn spans_of(heading: &Heading) -> [Span; 8]
-    ensures { result ≡ filled nought (map span_of (take heading.now.n heading.now.variables)) }
+// What `part` takes from each variable, in the first of eight places, and `spare` in the others.
+fn filled<T: Copy, F: Fn(&Variable) -> T>(
+    variables: &ArrayVec<Variable, 8>,
+    spare: T,
+    part: F,
+) -> [T; 8]
+    requires { F.IsAlwaysCallable part }
+    ensures { FilledBy (F.post part) spare variables.now.items result }
 {
-    let mut spans = [Span { lo: 0, hi: 0 }; 8];
-    for i in 0..heading.n {
-        spans[i] = heading.variables[i].span;
+    let mut all = [spare; 8];
+    // the index is the variable's number, which is its place
+    for (i, v) in variables.iter().enumerate() {
+        all[i] = part(v);
     }
-    spans
-}
-
-fn nominals_of(heading: &Heading) -> [i32; 8]
-    ensures { result ≡ filled (pos 0) (map nominal_of (take heading.now.n heading.now.variables)) }
-{
-    let mut nominals = [0; 8];
-    for i in 0..heading.n {
-        nominals[i] = heading.variables[i].nominal;
-    }
-    nominals
+    all
 }

@@ -5,7 +5,7 @@ use run::run::Run;
 use runlaw::shape::Refusal;
 
 /// Why a run to the end stopped: nothing was taken, or the list to file the taken box in was full.
-#[derive(Clone, Copy)]
+#[derive(Clone, Copy, Debug, PartialEq, Eq)]
 pub enum Stop {
     Untaken(Refusal),
     FeasibleFull,
@@ -17,6 +17,7 @@ impl Stop {
     pub fn number(self) -> usize
         ensures { result ≡ stop_number self }
     {
+        // no discriminants: a refusal keeps its own number
         match self {
             Stop::Untaken(refusal) => refusal.number(),
             Stop::FeasibleFull => 25,

@@ -4,7 +4,12 @@ use mathlib.Core.HLevel.{is_prop→PathP}
 use native.Mathlib.Nat.{ℕ_set}
 use native.Mathlib.Bridge.{le_prop}
 use Rattle.std.proofs.lemmas.Int.{ints}
-use lib.Dec.{T_prop}
+use Rattle.std.specs.Prelude.{Decides, ◌&&◌}
+use Rattle.std.specs.Ordering.{int_eq}
+use Rattle.std.specs.Cmp.Lexicographic.{pointwise_decides}
+use Rattle.std.proofs.lemmas.Bool.Decides.{Decides-and, Decides-eqb, Decides-int_eq}
+use lib.Dec.{T_prop, eqb}
+use lib.Pointwise.{pointwise}
 use lib.Signed.{le_z}
 use Rattle.span.specs.declared.shape.Span.{Span}
 use Rattle.span.specs.declared.region.Region.{Region}
@@ -66,6 +71,21 @@ same_region a b p q = λ i. record {
   few = is_prop→PathP (λ j. p j ≤ 8) (λ j. le_prop) a.few b.few i;
   whole = is_prop→PathP (λ j. length (q j) ≡ 8) (λ j. ℕ_set (length (q j)) 8) a.whole b.whole i;
 }
+
+-- ---- the derived tests decide whether two spans, and two boxes, are the same
+span_decided : (s t : Span) → Decides (int_eq s.lo t.lo && int_eq s.hi t.hi) (s ≡ t)
+span_decided s t =
+    let d = Decides-and (int_eq s.lo t.lo) (int_eq s.hi t.hi) (Decides-int_eq s.lo t.lo) (Decides-int_eq s.hi t.hi) in (
+      λ e. same_span s t (d.0 e).0 (d.0 e).1,
+      λ e. d.1 (ap (λ (u : Span). u.lo) e, ap (λ (u : Span). u.hi) e),
+    )
+
+pub region_decided : (a b : Region) → Decides (eqb a.n b.n && pointwise (λ (s t : Span). int_eq s.lo t.lo && int_eq s.hi t.hi) a.spans b.spans) (a ≡ b)
+region_decided a b =
+    let d = Decides-and _ _ (Decides-eqb a.n b.n) (pointwise_decides span_decided a.spans b.spans) in (
+      λ e. same_region a b (d.0 e).0 (d.0 e).1,
+      λ e. d.1 (ap (λ (c : Region). c.n) e, ap (λ (c : Region). c.spans) e),
+    )
 
 -- ---- ends are machine integers
 pub lo_fits : (s : Span) → SFits w32 s.lo

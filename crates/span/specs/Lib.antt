@@ -1,4 +1,6 @@
 pub mod Making
 pub mod Holding
+pub mod Reached
 pub mod Halves
 pub mod Regions
+pub mod Text

@@ -4,6 +4,9 @@ ghost use Rattle.span.specs.Regions.{at, put, with_span, lower_half, upper_half,
 use crate::region::Region;
 use crate::shape::Span;
 
+// [0, 0], which stands in a place that no variable has.
+const NOUGHT: Span = Span { lo: 0, hi: 0 };
+
 impl Region {
     /// The box of a list of spans: none if it is empty or has more than eight. The spare places are [0, 0].
     pub fn new(spans: &[Span]) -> Option<Region>
@@ -13,10 +16,8 @@ impl Region {
         if n < 1 || n > 8 {
             return None;
         }
-        let mut all = [Span { lo: 0, hi: 0 }; 8];
-        for i in 0..n {
-            all[i] = spans[i];
-        }
+        let mut all = [NOUGHT; 8];
+        all[..n].copy_from_slice(spans);
         Some(Region { n, spans: all })
     }
 
@@ -24,10 +25,7 @@ impl Region {
     pub fn span(&self, j: usize) -> Span
         ensures { result ≡ at self.now j }
     {
-        if j < 8 {
-            return self.spans[j];
-        }
-        Span { lo: 0, hi: 0 }
+        self.spans.get(j).copied().unwrap_or(NOUGHT)
     }
 
     // The box with s at place j.
@@ -59,34 +57,13 @@ impl Region {
     pub fn middles(&self) -> [i32; 8]
         ensures { result ≡ middles self.now }
     {
-        let mut all = [0; 8];
-        for i in 0..8 {
-            all[i] = self.spans[i].middle();
-        }
-        all
+        self.spans.map(|s| s.middle())
     }
 
     /// Whether two boxes have the same number of variables and the same spans.
     pub fn same(&self, other: &Region) -> bool
         ensures { Decides result (self.now ≡ other.now) }
     {
-        self.n == other.n && same_spans(&self.spans, &other.spans)
+        self == other
     }
-}
-
-fn same_ends(s: Span, t: Span) -> bool
-    ensures { Decides result (s ≡ t) }
-{
-    s.lo == t.lo && s.hi == t.hi
-}
-
-fn same_spans(a: &[Span; 8], b: &[Span; 8]) -> bool
-    ensures { Decides result (a.now ≡ b.now) }
-{
-    for k in 0..8 {
-        if !same_ends(a[k], b[k]) {
-            return false;
-        }
-    }
-    true
 }

@@ -8,14 +8,15 @@ impl Span {
     pub fn width(self) -> u32
         ensures { result ≡ width self }
     {
-        (self.hi as i64 - self.lo as i64) as u32
+        self.hi.abs_diff(self.lo)
     }
 
     /// The lower middle: half the sum of the ends, rounded down.
     pub fn middle(self) -> i32
         ensures { result ≡ middle self }
     {
-        ((self.lo as i64 + self.hi as i64) >> 1) as i32
+        // between two i32, so the cast loses nothing
+        ((i64::from(self.lo) + i64::from(self.hi)) >> 1) as i32
     }
 
     /// The lower and the upper half, which share the lower middle.

@@ -9,3 +9,4 @@ pub mod halves;
 pub mod make;
 pub mod region;
 pub mod shape;
+pub mod text;

@@ -3,7 +3,10 @@
 
 #![tactic(auto)]
 
-use line::refusal::refusal_line;
+use enclosure::shape::Marked;
+use line::fault::LineFault;
+use line::piece::push_bytes;
+use line::refusal::write_refusal;
 use listing::accepted::{Accepted, accepted_line};
 use program::fault::refusal_of;
 use report::row::nominal_report;
@@ -14,43 +17,53 @@ use std::fs;
 use std::io::Write;
 
 // What an accepted sheet has, and its rows.
-fn accepted(heap: Global, sheet: &Sheet, bytes: usize) -> Result<(Vec<u8>, Vec<u8>), AllocError> {
+fn accepted(alloc: Global, sheet: &Sheet, bytes: usize) -> Result<(Vec<u8>, Vec<u8>), AllocError> {
     let system = sheet.system();
-    let line = accepted_line(
-        heap,
-        Accepted {
-            variables: system.n(),
-            rows: system.rows().len(),
-            terms: system.terms().len(),
-            bytes,
-        },
-    )?;
+    let line = accepted_line(alloc, Accepted::of(sheet, bytes))?;
+    // as `nominal` has it: a call for both would take the sheet apart as these lines do
     match sheet.start() {
         Some(start) => Ok((
             line,
-            nominal_report(heap, &system, &start, &sheet.nominals())?,
+            nominal_report(
+                alloc,
+                &system,
+                &Marked {
+                    region: &start,
+                    inside: sheet.nominals(),
+                },
+            )?,
         )),
-        None => Ok((line, Vec::new(heap))),
+        None => Ok((line, Vec::new(alloc))),
     }
 }
 
-fn told(heap: Global, bytes: &[u8]) -> Result<(Vec<u8>, Vec<u8>), AllocError> {
+// How a sheet was read. A refusal is written into a lent buffer, so that the gate sees such a call succeed.
+fn told(alloc: Global, bytes: &[u8]) -> Result<(Vec<u8>, Vec<u8>), LineFault> {
+    // lent places live in the frame that lends them, so each program has its own
     let mut rows = [blank_row(); 64];
     let mut terms = [blank_term(); 64];
     let mut sheet = Sheet::over(&mut rows, &mut terms);
     match sheet.read(bytes) {
-        Err(fault) => Ok((refusal_line(heap, refusal_of(fault))?, Vec::new(heap))),
-        Ok(()) => accepted(heap, &sheet, bytes.len()),
+        Err(fault) => {
+            let mut buffer = [0; 64];
+            let used = write_refusal(alloc, refusal_of(fault), &mut buffer)?;
+            let mut line = Vec::new(alloc);
+            push_bytes(&mut line, &buffer[..used])?;
+            Ok((line, Vec::new(alloc)))
+        }
+        Ok(()) => Ok(accepted(alloc, &sheet, bytes.len())?),
     }
 }
 
 fn main(rt: HostRuntime) -> anyhow::Result<()> {
-    let heap = rt.alloc();
+    let alloc = rt.alloc();
+    // Three programs go over such a list. A call for all would take the runtime and the work, and promise nothing, as
+    // `fs::read` does; these lines show what it would do.
     let names = fs::read_to_string(&rt, "names.txt")?;
     for name in names.lines() {
-        let path = format!(in heap; "{name}.sheet")?;
+        let path = format!(in alloc; "{name}.sheet")?;
         let bytes = fs::read(&rt, path.as_str())?;
-        let (line, rows) = told(heap, bytes.as_slice())?;
+        let (line, rows) = told(alloc, bytes.as_slice())?;
         println!(rt; "== {name}")?;
         rt.stdout().write_all(line.as_slice())?;
         rt.stdout().write_all(b"\n")?;

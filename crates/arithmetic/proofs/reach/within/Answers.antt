@@ -1,7 +1,13 @@
-use Rattle.std.proofs.Common.{arith}
+use Rattle.std.proofs.Common.{◌≡◌, ◌∙◌, w32, to_z, of_z, arith}
 use Rattle.std.proofs.lemmas.Int.{ints, clamps}
-use Rattle.arithmetic.proofs.Results.{within_closed}
+use Rattle.std.specs.Int.{int_min, int_max}
+use Rattle.span.specs.Making.{made}
 use Rattle.arithmetic.proofs.reach.within.Goals as goal
 
-pub returns-then-lo-hi : goal.returns-then-lo-hi
-returns-then-lo-hi c = record { answer = within_closed c.args.s c.args.r c.in-Closed.u _ c.in-Closed.is (omega (arith, ints, clamps)) (omega (arith, ints, clamps)); holds = record {} }
+pub returns-in-Closed-clause-answer : goal.returns-in-Closed-clause-answer
+returns-in-Closed-clause-answer c =
+    let s = c.args.s in
+    let u = c.in-Closed.u in
+    let lo : to_z w32 (of_z w32 c.max.result) ≡ int_max s.lo u.lo = omega (arith, ints, clamps) in
+    let hi : to_z w32 (of_z w32 c.min.result) ≡ int_min s.hi u.hi = omega (arith, ints, clamps) in
+    rw c.in-Closed.is (c.new.ensures ∙ (λ i. made (lo i) (hi i)))

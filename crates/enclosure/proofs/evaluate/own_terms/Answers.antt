@@ -1,27 +1,12 @@
-use Rattle.std.proofs.Common.{◌+◌, ◌-◌, List, drop, sym, ap, ◌∙◌, arith}
-use Rattle.sheet.specs.declared.shape.Term.{Term}
-use Rattle.enclosure.specs.Rows.{own}
-use Rattle.enclosure.proofs.Turns.{own_there, own_further, own_none}
+use Rattle.std.proofs.Common.{sym, ap, ◌∙◌, rules}
+use Rattle.std.proofs.lemmas.Iterator.Consumers.{nth_from_yields_List, YieldsList-from_first}
+use Rattle.enclosure.specs.Lines.{parts, told, left}
+use Rattle.enclosure.proofs.Turns.{terms_in, own_part, terms_told}
 use Rattle.enclosure.proofs.evaluate.own_terms.Goals as goal
 
-pub loop-k-preserved : goal.loop-k-preserved
-loop-k-preserved c =
-    let rows = c.rows-rows.result.now in
-    let rest = c.loop-k.rest.now in
-    let k = c.loop-k.k in
-    let i = c.args.i in (
-      omega (arith, c.if-k-i.false, c.loop-k.invariant.0),
-      ap (λ (r : List Term). own (drop (k + 1) rows) r (i - (k + 1))) c.parted.ensures.more
-          ∙ sym (own_further rows k i c.index-rows-k.result rest c.loop-k-test.true (omega (arith, c.if-k-i.false, c.loop-k.invariant.0))) ∙ c.loop-k.invariant.1,
-    )
-
-pub returns-then-k-i : goal.returns-then-k-i
-returns-then-k-i c =
-    let rows = c.rows-rows.result.now in
-    let rest = c.loop-k.rest.now in
-    let k = c.loop-k.k in
-    c.parted.ensures.own ∙ sym (own_there rows k c.index-rows-k.result rest c.loop-k-test.true)
-    ∙ ap (own (drop k rows) rest) (let e = c.if-k-i.true in omega arith) ∙ c.loop-k.invariant.1
-
 pub returns : goal.returns
-returns c = c.split_at.ensures.front ∙ sym (own_none c.rows-rows.result.now c.loop-k.k (c.args.i - c.loop-k.k) c.loop-k.rest.now c.loop-k-test.false) ∙ c.loop-k.invariant.1
+returns c =
+    let rows = c.args.system.now.rows.now in
+    let ts = c.args.system.now.terms.now in
+    let n = nth_from_yields_List c.nth.result c.nth.new.self c.args.i c.nth.ensures.ran (YieldsList-from_first told left (parts rows ts) (λ i. parts (c.of.ensures.rows i) (c.of.ensures.terms i))) in
+    terms_told c.nth.result c.map_or.result.now (search rules) ∙ ap terms_in n ∙ sym (own_part rows ts c.args.i)

@@ -5,4 +5,4 @@ use Rattle.enclosure.proofs.evaluate.term.Given as goal
 
 -- what is left gives the term
 abbrev pub invariant-loop-i : goal.invariant-loop-i
-invariant-loop-i g l = factors (ops g.E.Enclosure) (variables g.E.Enclosure l.b (numbers l.inside)) l.all l.i (drop l.i (take l.n l.t.exponents)) ≡ term_of (ops g.E.Enclosure) (variables g.E.Enclosure l.b (numbers l.inside)) (term l.n l.t)
+invariant-loop-i g l = factors (ops g.E.Enclosure) (variables g.E.Enclosure l.m.region.now (numbers l.m.inside)) l.all l.i (drop l.i (take l.n l.t.exponents)) ≡ term_of (ops g.E.Enclosure) (variables g.E.Enclosure l.m.region.now (numbers l.m.inside)) (term l.n l.t)

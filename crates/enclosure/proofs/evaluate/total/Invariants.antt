@@ -5,4 +5,4 @@ use Rattle.enclosure.proofs.evaluate.total.Given as goal
 
 -- what is left gives the row
 abbrev pub invariant-loop-t : goal.invariant-loop-t
-invariant-loop-t g l = terms_from (ops g.E.Enclosure) (variables g.E.Enclosure l.b (numbers l.inside)) l.all (map (term l.n) (drop l.t-index l.ts)) ≡ row_of (ops g.E.Enclosure) (variables g.E.Enclosure l.b (numbers l.inside)) (map (term l.n) l.ts)
+invariant-loop-t g l = terms_from (ops g.E.Enclosure) (variables g.E.Enclosure l.m.region.now (numbers l.m.inside)) l.all (map (term l.n) (drop l.t-index l.ts)) ≡ row_of (ops g.E.Enclosure) (variables g.E.Enclosure l.m.region.now (numbers l.m.inside)) (map (term l.n) l.ts)

@@ -1,9 +1,11 @@
-use Rattle.std.proofs.Common.{◌≡◌, drop}
-use Rattle.enclosure.specs.Rows.{lines_from, lines, numbers}
+use Rattle.std.proofs.Common.{◌≡◌, map}
+use Rattle.enclosure.specs.Lines.{left}
+use Rattle.enclosure.specs.Rows.{lines, numbers}
 use Rattle.enclosure.specs.Judging.{joined}
 use Rattle.enclosure.specs.Evaluation.{judged}
+use Rattle.enclosure.proofs.Turns.{lined}
 use Rattle.enclosure.proofs.judge.judge.Given as goal
 
 -- what is left gives the judgement
-abbrev pub invariant-loop-row : goal.invariant-loop-row
-invariant-loop-row g l = joined l.all (judged g.E.Enclosure l.b (numbers l.inside) (lines_from l.n (drop l.row-index l.rows) l.rest)) ≡ judged g.E.Enclosure l.b (numbers l.inside) (lines l.system)
+abbrev pub invariant-loop-line : goal.invariant-loop-line
+invariant-loop-line g l = joined l.all (judged g.E.Enclosure l.m.region.now (numbers l.m.inside) (map (lined l.n) (left l.line-iterator))) ≡ judged g.E.Enclosure l.m.region.now (numbers l.m.inside) (lines l.system)

@@ -1,5 +1,5 @@
 use Rattle.std.proofs.Common.{pos, refl, ap, ◌∙◌}
-use Rattle.span.specs.declared.shape.Reach.{Reach}
+use Rattle.span.specs.Reached.{Reach}
 use Rattle.sheet.specs.declared.shape.Bounds.TheVariants.{AtMost}
 use Rattle.arithmetic.specs.Reaches.{stretch}
 use Rattle.enclosure.specs.Judging.{judged_row}

@@ -1,13 +1,22 @@
-use Rattle.std.proofs.Common.{length, arith}
-use native.Mathlib.Decide.{dec_le}
-use Rattle.line.proofs.Growing.{turn, done, one_over}
-use Rattle.report.proofs.Reporting.{ranges_next, ranges_end}
+use Rattle.std.proofs.Common.{◌≡◌, ℕ, zero, suc, min, List, [], ◌∷◌, length, drop, refl, rules, arith}
+use Rattle.std.proofs.lemmas.Slice.Zip.{zip_end}
+use Rattle.std.proofs.lemmas.Grind.{common_steps}
+use Rattle.span.specs.declared.shape.Span.{Span}
+use Rattle.sheet.specs.declared.variable.Variable.{Variable}
+use Rattle.report.specs.Ranges.{ranges_text}
 use Rattle.report.proofs.ranges.push_ranges.Goals as goal
 
-pub loop-i-preserved : goal.loop-i-preserved
-loop-i-preserved c =
-    turn _ _ _ _ _ _ c.in_ok-push_range.ensures
-    (ranges_next c.args.variables.now c.args.spans.now c.loop-i.i c.index-variables-i.result c.index-spans-i.result (let e = c.min-i-end.ensures in omega arith) (let e = c.min-i-end.ensures in omega arith) c.index-variables-i.is c.index-spans-i.is) c.loop-i.invariant
+-- past the variables, or past the spans, there is nothing more
+ranges_end : (vs : List Variable) (ss : List Span) (i : ℕ) → i ≡ min (length vs) (length ss) → ranges_text (drop i vs) (drop i ss) ≡ []
+ranges_end [] ss zero e = refl
+ranges_end [] ss (suc i) e = absurd (omega arith)
+ranges_end (v ∷ vs) [] zero e = refl
+ranges_end (v ∷ vs) [] (suc i) e = absurd (omega arith)
+ranges_end (v ∷ vs) (s ∷ ss) zero e = absurd (omega arith)
+ranges_end (v ∷ vs) (s ∷ ss) (suc i) e = ranges_end vs ss i (omega arith)
 
 pub returns : goal.returns
-returns c = done _ _ _ (ranges_end c.args.variables.now c.args.spans.now c.loop-i.i (one_over (length c.args.variables.now) (length c.args.spans.now) c.min-i-end.result c.loop-i.i c.min-i-end.ensures c.loop-i-test.false (dec_le (length c.args.variables.now) c.loop-i.i))) c.loop-i.invariant
+returns c =
+    let n : length c.loop-v.yielded ≡ min (length c.args.variables.now) (length c.args.spans.now) = zip_end _ _ _ _ _ c.next.new.self _ (search rules) (search rules) c.loop-v.yielded_by c.in-None.is c.next.ensures.steps in
+    let e = ranges_end c.args.variables.now c.args.spans.now (length c.loop-v.yielded) n in
+    grind (arith, common_steps)

@@ -10,4 +10,4 @@ returns c =
     let f' : SFits w64 c.args.a = omega (arith, ints) in
     let g' : SFits w64 c.args.b = omega (arith, ints) in
     let p : SFits w64 (c.args.a *ℤ c.args.b) = (product_fits c.args.a c.args.b f g).0 in
-    simp to_z-of_z
+    rw (c.from.ensures, c.from-2.ensures) (simp to_z-of_z)

@@ -1,9 +1,10 @@
-use Rattle.std.proofs.Common.{arith, rules}
-use Rattle.sheet.proofs.Loops.{degree_next, degree_end}
+use Rattle.std.proofs.Common.{◌≡◌, sym, refl, ◌∙◌, rules}
+use Rattle.std.specs.List.{sum_by}
+use Rattle.std.proofs.lemmas.List.Recursion.{is_sum_by}
+use Rattle.numbers.specs.Rows.{degree}
 use Rattle.sheet.proofs.decode.degree_of.Goals as goal
 
-pub loop-b-preserved : goal.loop-b-preserved
-loop-b-preserved c = let e = degree_next c.args.bytes.now c.loop-b.b-index (omega arith) in (omega arith, search rules)
-
 pub returns : goal.returns
-returns c = let e = degree_end c.args.bytes.now c.loop-b.b-index (omega arith) in omega arith
+returns c =
+    let e : c.sum.result ≡ sum_by (λ b. b) c.args.bytes.now = search rules in
+    e ∙ sym (is_sum_by degree (λ b. b) refl (λ _ _. refl) c.args.bytes.now)

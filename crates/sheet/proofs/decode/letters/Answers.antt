@@ -1,12 +1,13 @@
-use Rattle.std.proofs.Common.{sym, ◌∙◌, arith}
-use Rattle.sheet.proofs.Loops.{letters_no, letters_yes, letters_end}
+use Rattle.std.proofs.Common.{◌≡◌, ◌&&◌, refl, ◌∙◌, rules, tests}
+use Rattle.std.specs.List.{list_all}
+use Rattle.std.proofs.lemmas.Iterator.{YieldsList-from_slice}
+use Rattle.std.proofs.lemmas.Iterator.Search.{all_from_yields_List}
+use Rattle.std.proofs.lemmas.List.Recursion.{same_from_clauses}
+use Rattle.format.specs.Reading.{is_letter, are_letters}
 use Rattle.sheet.proofs.decode.letters.Goals as goal
 
-pub returns-then-not-letter : goal.returns-then-not-letter
-returns-then-not-letter c = letters_no c.args.bytes.now c.loop-b.b-index c.loop-b-test.true c.if-not-letter.ensures c.loop-b.invariant
-
-pub loop-b-preserved : goal.loop-b-preserved
-loop-b-preserved c = letters_yes c.args.bytes.now c.loop-b.b-index c.loop-b-test.true c.if-not-letter.ensures c.loop-b.invariant
-
 pub returns : goal.returns
-returns c = sym (c.loop-b.invariant ∙ letters_end c.args.bytes.now c.loop-b.b-index (omega arith))
+returns c =
+    let xs = c.args.bytes.now in
+    let r : c.all.result ≡ list_all is_letter xs = all_from_yields_List is_letter _ _ c.all.result c.all.ensures.ran (YieldsList-from_slice xs cc) (λ x b q k. search (rules, tests)) in
+    r ∙ same_from_clauses (list_all is_letter) are_letters (λ x b. is_letter x && b) refl (λ _ _. refl) (λ _ _. refl) xs

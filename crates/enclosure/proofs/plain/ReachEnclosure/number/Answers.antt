@@ -7,5 +7,5 @@ pub returns : goal.returns
 returns c =
     let f = c.ranges.c in
     let f' : SFits w64 c.args.c = omega (arith, ints) in
-    let e : c.between.result ≡ stretch c.args.c c.args.c = simp to_z-of_z at c.between.ensures in
+    let e : c.between.result ≡ stretch c.args.c c.args.c = simp to_z-of_z at (rw (c.from.ensures, c.from-2.ensures) at c.between.ensures) in
     e

@@ -1,27 +1,34 @@
 use native.Mathlib.Nat.{sub-zero}
-use Rattle.std.proofs.Common.{◌+◌, drop, sym, ◌∙◌}
-use Rattle.enclosure.specs.Rows.{lines_from}
+use Rattle.std.proofs.Common.{ℕ, List, map, sym, ap, ◌∙◌}
+use Rattle.enclosure.specs.Rows.{Line, lines}
+use Rattle.enclosure.specs.Lines.{left}
+use Rattle.enclosure.proofs.Turns.{lined, lines_left}
 use Rattle.narrowing.specs.Passes.{line, passed}
 use Rattle.narrowing.proofs.Ways.{variable_none, variable_some, variables_done, row_turn, rows_done}
 use Rattle.narrowing.proofs.pass.GaussSeidelContractor.narrow.Goals as goal
 
+pub loop-line-init : goal.loop-line-init
+loop-line-init c =
+    ap (λ (ls : List Line). passed c.n-n.result ls c.args.b.now) (lines_left c.n-n.result c.into_iter-line-iterator.result c.args.system.now c.n-n.ensures (cc) (cc))
+    ∙ ap (λ (n : ℕ). passed n (lines c.args.system.now) c.args.b.now) c.n-n.ensures
+
 pub loop-j-init : goal.loop-j-init
-loop-j-init c = rw sub-zero (row_turn c.n-n.result c.rows-rows.result.now c.loop-i.i c.loop-i.rest.now c.loop-i.cur c.index-rows-i.result c.parted.result.0.now c.parted.result.1.now c.index-rows-i.is c.loop-i-test.true c.parted.ensures.own c.parted.ensures.more ∙ c.loop-i.invariant)
+loop-j-init c = rw sub-zero (row_turn c.n-n.result (left c.loop-line.line-iterator) c.loop-line.cur _ _ c.in-Some.ensures.steps ∙ c.loop-line.invariant)
 
 pub loop-j-preserved : goal.loop-j-preserved
 loop-j-preserved c =
     let n = c.n-n.result in
-    variable_some (line n c.index-rows-i.result.bounds c.parted.result.0.now) n c.loop-j.j c.loop-j.cur (passed n (lines_from n (drop (c.loop-i.i + 1) c.rows-rows.result.now) c.parted.result.1.now)) c.in-Some.c c.loop-j-test.true (sym c.in-Some.is ∙ c.narrow_at.ensures) ∙ c.loop-j.invariant
+    variable_some (line n c.in-Some.line.bounds c.in-Some.line.terms.now) n c.loop-j.j c.loop-j.cur (passed n (map (lined n) (left c.next.new.self))) c.in-Some-narrow.c c.loop-j-test.true (sym c.in-Some-narrow.is ∙ c.narrow.ensures) ∙ c.loop-j.invariant
 
-pub loop-i-preserved : goal.loop-i-preserved
-loop-i-preserved c =
+pub loop-line-preserved : goal.loop-line-preserved
+loop-line-preserved c =
     let n = c.n-n.result in
-    variables_done (line n c.index-rows-i.result.bounds c.parted.result.0.now) n c.loop-j.j c.loop-j.cur (passed n (lines_from n (drop (c.loop-i.i + 1) c.rows-rows.result.now) c.parted.result.1.now)) c.loop-j-test.false ∙ c.loop-j.invariant
+    variables_done (line n c.in-Some.line.bounds c.in-Some.line.terms.now) n c.loop-j.j c.loop-j.cur (passed n (map (lined n) (left c.next.new.self))) c.loop-j-test.false ∙ c.loop-j.invariant
+
+pub returns-in-None-narrow : goal.returns-in-None-narrow
+returns-in-None-narrow c =
+    let n = c.n-n.result in
+    variable_none (line n c.in-Some.line.bounds c.in-Some.line.terms.now) n c.loop-j.j c.loop-j.cur (passed n (map (lined n) (left c.next.new.self))) c.loop-j-test.true (sym c.in-None-narrow.is ∙ c.narrow.ensures) ∙ c.loop-j.invariant
 
 pub returns-in-None : goal.returns-in-None
-returns-in-None c =
-    let n = c.n-n.result in
-    variable_none (line n c.index-rows-i.result.bounds c.parted.result.0.now) n c.loop-j.j c.loop-j.cur (passed n (lines_from n (drop (c.loop-i.i + 1) c.rows-rows.result.now) c.parted.result.1.now)) c.loop-j-test.true (sym c.in-None.is ∙ c.narrow_at.ensures) ∙ c.loop-j.invariant
-
-pub returns-after-loop-i : goal.returns-after-loop-i
-returns-after-loop-i c = sym (rows_done c.n-n.result c.rows-rows.result.now c.loop-i.i c.loop-i.rest.now c.loop-i.cur c.loop-i-test.false) ∙ c.loop-i.invariant
+returns-in-None c = sym (rows_done c.n-n.result (left c.loop-line.line-iterator) c.loop-line.cur c.in-None.ensures.steps.0) ∙ c.loop-line.invariant

@@ -1,8 +1,9 @@
-use Rattle.std.proofs.Common.{◌≡◌, drop}
-use Rattle.enclosure.specs.Rows.{lines_from}
+use Rattle.std.proofs.Common.{◌≡◌, map}
+use Rattle.enclosure.specs.Lines.{left}
+use Rattle.enclosure.proofs.Turns.{lined}
 use Rattle.narrowing.specs.Tests.{tested, row_test}
 use Rattle.narrowing.proofs.test.RowTestContractor.narrow.Given as goal
 
 -- what is left of the rows gives the answer
-abbrev pub invariant-loop-i : goal.invariant-loop-i
-invariant-loop-i l = tested (lines_from l.n (drop l.i l.rows) l.rest) l.b ≡ row_test l.system l.b
+abbrev pub invariant-loop-line : goal.invariant-loop-line
+invariant-loop-line l = tested (map (lined l.n) (left l.line-iterator)) l.b ≡ row_test l.system l.b

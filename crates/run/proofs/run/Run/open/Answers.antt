@@ -1,4 +1,4 @@
-use Rattle.std.proofs.Common.{◌≡◌, [], ◌∷◌, refl, ◌∙◌, rules}
+use Rattle.std.proofs.Common.{◌≡◌, [], ◌∷◌, refl, ◌∙◌, ap, rules}
 use Rattle.list.specs.Lists.{items, room}
 use Rattle.list.proofs.Lists.{first_added}
 use Rattle.runlaw.proofs.Runs.{same_opened, always_from}
@@ -7,10 +7,10 @@ use Rattle.run.proofs.run.Run.open.Goals as goal
 
 pub returns : goal.returns
 returns c =
-    let o : Openable c.args.system.now c.args.start c.args.tolerance (room c.args.pending) = search rules in
-    let p : items c.add.new.self ≡ c.args.start ∷ [] = c.add.ensures.holds ∙ first_added _ _ _ _ c.clear.ensures.holds c.clear.ensures.same o.place in
-    let q : room c.add.new.self ≡ room c.args.pending = c.add.ensures.same ∙ c.clear.ensures.same in (
+    let o : Openable c.args.system.now c.args.start c.args.tolerance (room c.args.lists.pending) = search rules in
+    let p : items c.add.new.self ≡ c.args.start ∷ [] = ap items c.add.ensures.holds ∙ rw c.clear.ensures (first_added _ _ o.place) in
+    let q : room c.add.new.self ≡ room c.args.lists.pending = ap room c.add.ensures.holds ∙ ap room c.clear.ensures in (
       o,
-      same_opened refl refl refl refl refl p q c.clear-2.ensures.holds c.clear-2.ensures.same c.clear-3.ensures.holds c.clear-3.ensures.same,
-      always_from (same_opened {l = c.args.limit} refl refl refl refl refl p q c.clear-2.ensures.holds c.clear-2.ensures.same c.clear-3.ensures.holds c.clear-3.ensures.same) o.some o.fits o.place,
+      same_opened refl refl refl refl refl p q (ap items c.clear-2.ensures) (ap room c.clear-2.ensures) (ap items c.clear-3.ensures) (ap room c.clear-3.ensures),
+      always_from (same_opened {l = c.args.limit} refl refl refl refl refl p q (ap items c.clear-2.ensures) (ap room c.clear-2.ensures) (ap items c.clear-3.ensures) (ap room c.clear-3.ensures)) o.some o.fits o.place,
     )
