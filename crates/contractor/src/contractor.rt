@@ -14,3 +14,14 @@ pub trait Contractor {
     fn narrow(&self, system: &System, b: &Region) -> Option<Region>
         ensures { result ≡ narrowed self.now system.now b.now };
 }
+
+// A lent contractor narrows as the one that is lent.
+impl<'c, C: Contractor> Contractor for &'c C {
+    ghost narrowed = { λ c. C.Contractor.narrowed c.now };
+
+    ghost laws = { λ c. C.Contractor.laws c.now };
+
+    fn narrow(&self, system: &System, b: &Region) -> Option<Region> {
+        (**self).narrow(system, b)
+    }
+}

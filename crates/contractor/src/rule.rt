@@ -12,3 +12,14 @@ pub trait SplittingRule {
     fn name(&self, b: &Region, tolerance: u32) -> Option<usize>
         ensures { result ≡ named self.now b.now tolerance };
 }
+
+// A lent rule names what the one that is lent does.
+impl<'r, R: SplittingRule> SplittingRule for &'r R {
+    ghost named = { λ r. R.SplittingRule.named r.now };
+
+    ghost laws = { λ r. R.SplittingRule.laws r.now };
+
+    fn name(&self, b: &Region, tolerance: u32) -> Option<usize> {
+        (**self).name(b, tolerance)
+    }
+}

@@ -1,6 +1,6 @@
 -- What is left of a list when its newest is taken away, and what one and two more are in a list that has the places.
-use Rattle.std.proofs.Common.{◌≡◌, ℕ, suc, ◌+◌, ◌-◌, ◌≤◌, List as Seq, [], ◌∷◌, ◌++◌, length, get_or, take, Some, sym, refl, ap, ◌∙◌, append_assoc, arith, length-append, take-suc, lt-ltb}
-use Rattle.list.specs.Lists.{newest, older, added, free}
+use Rattle.std.proofs.Common.{◌≡◌, ℕ, suc, ◌+◌, ◌-◌, ◌≤◌, List as Seq, [], ◌∷◌, ◌++◌, length, get_or, take, drop, Some, sym, refl, ap, ◌∙◌, append_assoc, arith, length-append, take-suc, take-append-drop, lt-ltb}
+use Rattle.list.specs.Lists.{Listed, holding, newest, older, added, free}
 
 module _ {A : Type 0} where
   newest_end : (xs : Seq A) (x : A) → newest (xs ++ x ∷ []) ≡ Some x
@@ -32,3 +32,12 @@ module _ {A : Type 0} where
   two_added k xs x y h =
       let m : length (xs ++ x ∷ []) ≡ length xs + 1 = length-append xs (x ∷ []) in
       rw (lt-ltb (length xs) k (omega arith), lt-ltb (length (xs ++ x ∷ [])) k (omega arith)) (append_assoc xs (x ∷ []) (y ∷ []))
+
+  -- a list whose places were p and are q: the first n of q are xs, and nothing behind them has changed
+  pub holds : (p q : Seq A) (k n : ℕ) (xs : Seq A) → take n q ≡ xs → drop n q ≡ drop n p → length q ≡ length p → n ≡ length xs
+      → ◌≡◌ {A = Listed A} (record { held = take n q; spare = drop n q; places = length q }) (holding (record { held = take k p; spare = drop k p; places = length p }) xs)
+  holds p q k n xs first behind long count = λ i. record {
+    held = first i;
+    spare = (behind ∙ (λ j. drop (count j) (sym (take-append-drop k p) j))) i;
+    places = long i;
+  }

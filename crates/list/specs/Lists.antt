@@ -1,9 +1,10 @@
 -- A list over lent places, for every kind of element: what it holds, oldest first, and what each call leaves.
 use Rattle.std.specs.Prelude.{ℕ, ◌-◌, Bool, cond, List as Seq, [], ◌∷◌, ◌++◌, length, drop, Some, None, Option, nat_le, nat_lt}
 
--- a list: what it holds, and how many places it lies over
+-- a list: what it holds, what stands in the places behind that, and how many places it lies over
 pub record Listed (T : Type 0) : Type 0 where
   pub held : Seq T
+  pub spare : Seq T
   pub places : ℕ
 
 module _ {T : Type 0} where
@@ -13,13 +14,13 @@ module _ {T : Type 0} where
   abbrev pub room : Listed T → ℕ
   room l = l.places
 
-  -- nothing, over so many places
-  abbrev pub empty : ℕ → Listed T
-  empty places = record { held = []; places = places }
+  -- nothing, over these places
+  abbrev pub empty : Seq T → Listed T
+  empty places = record { held = []; spare = places; places = length places }
 
-  -- these over the places of l
+  -- these in the first places of l, and behind them what stood there
   abbrev pub holding : Listed T → Seq T → Listed T
-  holding l xs = record { held = xs; places = l.places }
+  holding l xs = record { held = xs; spare = drop (length xs) (l.held ++ l.spare); places = l.places }
 
   -- the newest of what is held, and the rest
   abbrev pub newest_of : T → Seq T → T

@@ -1,4 +1,4 @@
-ghost use Rattle.std.specs.Prelude.{◌≡◌, ◌≤◌, ◌↔◌, [], Some, codes, length, take, IsTrue};
+ghost use Rattle.std.specs.Prelude.{◌≡◌, ◌≤◌, ◌↔◌, [], Some, codes, length, take, drop, IsTrue};
 ghost use Rattle.std.specs.List.{slice_get};
 ghost use Rattle.list.specs.Lists.{Listed, items, room, empty, holding, newest, older, added, has_room, free, fits, fronted, replaced};
 ghost use Rattle.list.specs.Answers.{answered};
@@ -18,8 +18,8 @@ pub struct List<'a, T> {
 impl<'a, T> Model for List<'a, T> {
     ghost Value = { Listed T };
 
-    // What stands past `len` is of no account.
-    ghost view = { λ l. record { held = take l.len l.places.now; places = length l.places.now } };
+    // What stands past `len` is of no account to a caller; it stays as it was all the same.
+    ghost view = { λ l. record { held = take l.len l.places.now; spare = drop l.len l.places.now; places = length l.places.now } };
 
     ghost invariant = { λ l. l.len ≤ length l.places.now };
 }
@@ -53,7 +53,7 @@ pub fn copy_to_front<T: Copy>(places: &mut [T], xs: &[T]) -> Result<(), Full>
 impl<'a, T: Copy> List<'a, T> {
     /// An empty list over these places.
     pub fn over(places: &'a mut [T]) -> List<'a, T>
-        ensures { result ≡ empty (length places.old) }
+        ensures { result ≡ empty places.old }
     {
         List { places, len: 0 }
     }

@@ -8,7 +8,7 @@ use crate::bytes::{push_groups, push_hexes};
 use crate::words::{push_row, push_term, push_variable};
 use line::fault::LineFault;
 use line::lend::lend;
-use line::piece::{pad_to, push_shown, push_text};
+use line::piece::{pad_to, push_count, push_shown, push_text};
 use sheet::content::number;
 use sheet::field::{Field, Placed};
 use sheet::variable::Name;
@@ -64,7 +64,7 @@ pub fn field_line(alloc: Global, names: &[Name], placed: Placed) -> Result<Vec<u
 {
     let Placed { place, field } = placed;
     let mut line = Vec::new(alloc);
-    push_shown(&mut line, place)?;
+    push_count(&mut line, place)?;
     pad_to(&mut line, 6)?;
     push_bytes_of(&mut line, field)?;
     pad_to(&mut line, 60)?;

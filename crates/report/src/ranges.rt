@@ -103,9 +103,12 @@ pub fn push_undecided(
 ) -> Result<(), AllocError>
     ensures { OnOk result (line.new.items ≡ line.old.items ++ undecided_line variables.now f.now) }
 {
-    let cause = f.cause;
     push_box(line, "U", variables, &f.region)?;
-    push_shown(line, format_args!(" {cause}\n"))
+    // the word as it is: shown, it would be put together in a text of its own first
+    push_text(line, " ")?;
+    push_text(line, f.cause.word())?;
+    line.push(b'\n')?;
+    Ok(())
 }
 
 /// The whole report: the first line, then the feasible, the undecided and the pending boxes, oldest first.

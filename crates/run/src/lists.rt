@@ -1,4 +1,4 @@
-ghost use Rattle.std.specs.Prelude.{◌≡◌, length};
+ghost use Rattle.std.specs.Prelude.{◌≡◌};
 ghost use Rattle.list.specs.Lists.{empty};
 
 use list::lent::List;
@@ -20,9 +20,9 @@ impl<'a> Lists<'a> {
         feasible: &'a mut [Region],
         undecided: &'a mut [Filed],
     ) -> Lists<'a>
-        ensures pending { result.pending ≡ empty (length pending.old) }
-        ensures feasible { result.feasible ≡ empty (length feasible.old) }
-        ensures undecided { result.undecided ≡ empty (length undecided.old) }
+        ensures pending { result.pending ≡ empty pending.old }
+        ensures feasible { result.feasible ≡ empty feasible.old }
+        ensures undecided { result.undecided ≡ empty undecided.old }
     {
         Lists {
             pending: List::over(pending),

@@ -12,14 +12,23 @@ pub enum Cause {
     Crowded,
 }
 
+impl Cause {
+    /// The word that tells it.
+    pub fn word(self) -> &'static str
+        ensures { result.now ≡ cause_word self }
+    {
+        match self {
+            Cause::Small => "SMALL",
+            Cause::Crowded => "CROWDED",
+        }
+    }
+}
+
 impl fmt::Display for Cause {
     ghost output = { λ c. Some (cause_word c) };
 
     fn fmt<W: fmt::Write>(&self, f: &mut fmt::Formatter<W>) -> fmt::Result {
-        f.write_str(match self {
-            Cause::Small => "SMALL",
-            Cause::Crowded => "CROWDED",
-        })
+        f.write_str(self.word())
     }
 }
 

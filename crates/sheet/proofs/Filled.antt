@@ -5,6 +5,7 @@ use Rattle.std.proofs.lemmas.List.{map-set, map-append, flat_map_more, append-ni
 use Rattle.arrayvec.specs.ArrayVec.{ArrayVec}
 use Rattle.std.proofs.Math.ListN.{get_or-map}
 use Rattle.std.proofs.ByRecursion.{All-push}
+use Rattle.sheet.specs.Fews.{Few}
 use Rattle.sheet.specs.declared.shape.Row.{Row}
 use Rattle.sheet.specs.declared.shape.Term.{Term}
 use Rattle.sheet.specs.declared.variable.Variable.{Variable}
@@ -42,7 +43,7 @@ pub variables_held : (g : Gathered) (vs : List GivenVariable) (rs : List GivenRo
 variables_held g vs rs held = sym (length-map g.heading.variables.items variable_is) ∙ ap length held.variables
 
 -- what was gathered, with other variables, rows or terms
-abbrev pub with_variables : Gathered → ArrayVec Variable → Gathered
+abbrev pub with_variables : Gathered → Few Variable → Gathered
 with_variables g w = record { state = g.state; heading = record { variables = w; tolerance = g.heading.tolerance }; rows = g.rows; terms = g.terms }
 
 abbrev pub with_rows : Gathered → ArrayVec Row → Gathered
@@ -52,7 +53,7 @@ abbrev pub with_terms : Gathered → ArrayVec Row → ArrayVec Term → Gathered
 with_terms g w x = record { state = g.state; heading = g.heading; rows = w; terms = x }
 
 module _ (g : Gathered) (vs : List GivenVariable) (rs : List GivenRow) (held : Held g vs rs) where
-  pub held_variable : (w : ArrayVec Variable) (v : Variable) → length vs < 8 → w.items ≡ g.heading.variables.items ++ v ∷ [] → Held (with_variables g w) (vs ++ variable_is v ∷ []) rs
+  pub held_variable : (w : Few Variable) (v : Variable) → length vs < 8 → w.items ≡ g.heading.variables.items ++ v ∷ [] → Held (with_variables g w) (vs ++ variable_is v ∷ []) rs
   held_variable w v l e = let m = length-append vs (variable_is v ∷ []) in record {
     few = omega arith;
     variables = ap (map variable_is) e ∙ map-append variable_is g.heading.variables.items (v ∷ []) ∙ ap (λ (us : List GivenVariable). us ++ variable_is v ∷ []) held.variables;

@@ -7,6 +7,7 @@ use Rattle.format.specs.declared.fault.SheetFault.{SheetFault}
 use Rattle.arrayvec.specs.ArrayVec.{ArrayVec}
 use Rattle.format.specs.Content.{GivenVariable, GivenRow, Limits}
 use Rattle.format.specs.Reading.{Step, goes_on, stops, variables, row, terms, good_variable, good_term, good_limits, taken, add_variable, kept_limits, add_row, add_term}
+use Rattle.sheet.specs.Fews.{Few}
 use Rattle.sheet.specs.declared.shape.Bounds.{Bounds}
 use Rattle.sheet.specs.declared.shape.Row.{Row}
 use Rattle.sheet.specs.declared.shape.Term.{Term}
@@ -25,7 +26,7 @@ abbrev stopping : SheetFault → Gathered → Step → Type 0
 stopping f h s = Goes (Err f) h s
 
 -- a variable: v is what the code decoded of what the content gives
-pub variable_goes : (g : Gathered) (vs : List GivenVariable) → Held g vs [] → (w : ArrayVec Variable) (p : ℕ) (v : Variable) (x : GivenVariable) → g.state ≡ Variables → length g.heading.variables.items < 8
+pub variable_goes : (g : Gathered) (vs : List GivenVariable) → Held g vs [] → (w : Few Variable) (p : ℕ) (v : Variable) (x : GivenVariable) → g.state ≡ Variables → length g.heading.variables.items < 8
     → Some (variable_is v) ≡ cond (good_variable x) (Some x) None → false ≡ taken (name_is v.name) (map variable_is g.heading.variables.items) → w.items ≡ g.heading.variables.items ++ v ∷ []
     → Goes (Ok tt) (with_variables g w) (add_variable vs p x)
 variable_goes g vs held w p v x state-is few e free is =

@@ -1,4 +1,5 @@
 pub mod Says
+pub mod Fews
 pub mod Held
 pub mod Words
 pub mod Gathering

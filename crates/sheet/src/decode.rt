@@ -4,9 +4,9 @@ ghost use Rattle.format.specs.Reading.{variable_in, term_in, limits_in, is_lette
 ghost use Rattle.sheet.specs.Held.{told, readable, is_name, name_is, variable_is, bounds_is, term_is, widened, padded};
 
 use crate::content::{Asked, after, asked_in, count};
+use crate::few::Few;
 use crate::shape::{Bounds, Term};
 use crate::variable::{Name, Variable};
-use arrayvec::ArrayVec;
 use span::make::is_count;
 use span::shape::Span;
 
@@ -36,11 +36,12 @@ fn letters(bytes: &[u8]) -> bool
 fn name(bytes: &[u8]) -> Option<Name>
     ensures { told name_is result ≡ (if is_name bytes.now then Some bytes.now else None) }
 {
+    // the length first, so that no more than eight are looked at
+    let held = Few::holding(bytes, 0)?;
     if bytes.is_empty() || !letters(bytes) {
         return None;
     }
-    let bytes = ArrayVec::try_from(bytes).ok()?;
-    Some(Name { bytes })
+    Some(Name { bytes: held })
 }
 
 // The variable in a field's content; none if a value is out of range.

@@ -3,7 +3,6 @@ ghost use Rattle.numbers.specs.Rows.{Term as GivenTerm};
 ghost use Rattle.format.specs.Content.{GivenVariable, GivenRow, Limits};
 ghost use Rattle.format.specs.Fields.{right_length};
 ghost use Rattle.format.specs.Reading.{Draft, start, step, add_variable, set_tolerance, add_row, add_term, variable_in, number_in, limits_in, term_in};
-ghost use Rattle.arrayvec.specs.ArrayVec.{array_vec_len};
 ghost use Rattle.sheet.specs.Says.{kind_is, content_is};
 ghost use Rattle.sheet.specs.declared.gather.State.TheVariants.{Variables, Tolerance, Row as AtRow, Terms};
 ghost use Rattle.sheet.specs.Gathering.{follows, Held, Open, Goes, HeldOpen, Holds, Drafted, Takes};
@@ -133,7 +132,7 @@ impl Gathered {
     // Takes a field into what was gathered.
     pub(crate) fn take(&mut self, placed: Placed) -> Result<Progress, SheetFault>
         requires drafted { Drafted self.old }
-        requires length { right_length (array_vec_len self.old.heading.variables) (kind_is placed.field) (length (content_is placed.field)) ≡ true }
+        requires length { right_length (length self.old.heading.variables.items) (kind_is placed.field) (length (content_is placed.field)) ≡ true }
         ensures { (d : Draft) → Holds self.old d → Takes result self.new (step d placed.entry.place (kind_is placed.entry.field) (content_is placed.entry.field)) }
     {
         let Placed { place, field } = placed;

@@ -6,6 +6,7 @@
 
 pub mod content;
 mod decode;
+mod few;
 pub mod field;
 mod gather;
 pub mod heading;

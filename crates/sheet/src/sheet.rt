@@ -4,12 +4,12 @@ ghost use Rattle.list.specs.Lists.{items, room};
 ghost use Rattle.format.specs.Reading.{read_sheet};
 ghost use Rattle.sheet.specs.Sheets.{SheetSays, Means, variables_of, span_of, nominal_of, filled, FilledBy};
 
+use crate::few::Few;
 use crate::heading::Heading;
 use crate::shape::{Row, Term};
 use crate::system::System;
 use crate::variable::Variable;
 use crate::walk::read_content;
-use arrayvec::ArrayVec;
 use format::fault::SheetFault;
 use list::lent::List;
 use span::region::Region;
@@ -101,17 +101,13 @@ impl<'a> Sheet<'a> {
 }
 
 // What `part` takes from each variable, in the first of eight places, and `spare` in the others.
-fn filled<T: Copy, F: Fn(&Variable) -> T>(
-    variables: &ArrayVec<Variable, 8>,
-    spare: T,
-    part: F,
-) -> [T; 8]
+fn filled<T: Copy, F: Fn(&Variable) -> T>(variables: &Few<Variable, 8>, spare: T, part: F) -> [T; 8]
     requires { F.IsAlwaysCallable part }
     ensures { FilledBy (F.post part) spare variables.now.items result }
 {
     let mut all = [spare; 8];
     // the index is the variable's number, which is its place
-    for (i, v) in variables.iter().enumerate() {
+    for (i, v) in variables.as_slice().iter().enumerate() {
         all[i] = part(v);
     }
     all

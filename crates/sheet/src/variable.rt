@@ -1,17 +1,17 @@
 ghost use Rattle.std.specs.Prelude.{◌≡◌, [], pos, ◌≤ℤ◌};
 
-use arrayvec::ArrayVec;
+use crate::few::Few;
 use span::shape::Span;
 
 /// A variable's name: at most eight bytes.
 // No `Display`: lines are made of bytes, as a name is.
-#[derive(Debug, Default, Drop, PartialEq, Eq)]
+#[derive(Clone, Copy, Debug, Default, PartialEq, Eq)]
 pub struct Name {
-    pub(crate) bytes: ArrayVec<u8, 8>,
+    pub(crate) bytes: Few<u8, 8>,
 }
 
 /// A variable: its name, its span, and a nominal count inside the span.
-#[derive(Debug, Drop, PartialEq, Eq)]
+#[derive(Clone, Copy, Debug, PartialEq, Eq)]
 pub struct Variable {
     pub name: Name,
     pub span: Span,

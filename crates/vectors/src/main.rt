@@ -4,7 +4,6 @@
 #![tactic(auto)]
 
 use enclosure::shape::Marked;
-use line::fault::LineFault;
 use line::piece::push_bytes;
 use line::refusal::write_refusal;
 use listing::accepted::{Accepted, accepted_line};
@@ -38,7 +37,7 @@ fn accepted(alloc: Global, sheet: &Sheet, bytes: usize) -> Result<(Vec<u8>, Vec<
 }
 
 // How a sheet was read. A refusal is written into a lent buffer, so that the gate sees such a call succeed.
-fn told(alloc: Global, bytes: &[u8]) -> Result<(Vec<u8>, Vec<u8>), LineFault> {
+fn told(alloc: Global, bytes: &[u8]) -> Result<(Vec<u8>, Vec<u8>), AllocError> {
     // lent places live in the frame that lends them, so each program has its own
     let mut rows = [blank_row(); 64];
     let mut terms = [blank_term(); 64];
@@ -46,12 +45,15 @@ fn told(alloc: Global, bytes: &[u8]) -> Result<(Vec<u8>, Vec<u8>), LineFault> {
     match sheet.read(bytes) {
         Err(fault) => {
             let mut buffer = [0; 64];
-            let used = write_refusal(alloc, refusal_of(fault), &mut buffer)?;
+            // no such line is longer than the buffer, so only memory can be wanting
+            let used = write_refusal(alloc, refusal_of(fault), &mut buffer).map_err(
+                |_| AllocError,
+            )?;
             let mut line = Vec::new(alloc);
             push_bytes(&mut line, &buffer[..used])?;
             Ok((line, Vec::new(alloc)))
         }
-        Ok(()) => Ok(accepted(alloc, &sheet, bytes.len())?),
+        Ok(()) => accepted(alloc, &sheet, bytes.len()),
     }
 }
 
